@@ -1,0 +1,4 @@
+pub mod Bags
+pub mod GridLemmas
+pub mod KeyLemmas
+pub mod Totaling

@@ -1,0 +1,11 @@
+pub mod Bag
+pub mod Done
+pub mod Grid
+pub mod KeyBytes
+pub mod KeyFaults
+pub mod Marks
+pub mod Partition
+pub mod Ranges
+pub mod Rows
+pub mod Totals
+pub mod Values

@@ -1,0 +1,30 @@
+// Events: one line of a telemetry file each.
+use crate::Key;
+use std::marker::Model;
+
+/// An event of a telemetry file.
+///
+/// `ts` is event time in the file's own unit, and `v` are the line's values, 0 where a line has fewer than four; all
+/// lie within 10^15 of 0. `part` is the number of the file and `line` its line there, from 1 on.
+#[derive(Clone, Copy)]
+pub struct Event {
+    pub part: u16,
+    pub line: u32,
+    pub ts: i64,
+    pub key: Key,
+    pub v: [i64; 4],
+}
+
+impl Model for Event {
+    ghost use Rattle.std.specs.List.{AllByRecursion};
+    ghost use Rattle.jet_items.specs.Ranges.{IsWithin, most_time};
+    ghost use Rattle.jet_items.specs.Values.{EventValue};
+
+    ghost Value = { EventValue };
+
+    ghost view = { λ e. record { part = e.part; line = e.line; ts = e.ts; key = e.key; v = e.v } };
+
+    ghost invariant = { λ e. IsWithin most_time e.ts × AllByRecursion (IsWithin most_time) e.v };
+
+    ghost inverse = { λ e. record { part = e.part; line = e.line; ts = e.ts; key = e.key; v = e.v } };
+}

@@ -1,0 +1,154 @@
+// Keys: one to forty bytes of a small alphabet, kept in place, so that a key is copied without memory.
+ghost use Rattle.std.specs.Prelude.{◌≡◌, ◌≤◌, ◌<◌, length, not, position, IfSome, ◌++◌, ◌-◌, replicate, ◌==◌};
+ghost use Rattle.std.specs.Ordering.{nat_cmp, as_partial_cmp};
+ghost use Rattle.std.specs.Cmp.{partial_order_from_own_ties};
+ghost use Rattle.std.specs.Cmp.Lexicographic.{slice_cmp, pointwise};
+ghost use Rattle.std.proofs.Common.{rules};
+ghost use Rattle.std.specs.Cmp.Rules.{comparing};
+ghost use Rattle.jet_items.specs.KeyBytes.{is_key_byte, IsKey};
+
+use std::cmp::Ordering;
+use std::marker::Model;
+use thiserror::Error;
+
+/// Why bytes are no key.
+#[derive(Clone, Copy, Debug, PartialEq, Eq, Error)]
+pub enum KeyFault {
+    /// There are no bytes.
+    #[error("a key has at least one byte")]
+    Empty,
+    /// There are more bytes than the place allows.
+    #[error("the key is too long")]
+    Long,
+    /// The first byte that no key has, by its place from 0 on.
+    #[error("byte {0} of the key is no letter, digit or one of _ - . : /")]
+    BadByte(u32),
+}
+
+/// One to forty bytes of letters, digits and `_ - . : /`. Contracts see the list of its bytes.
+#[derive(Clone, Copy)]
+pub struct Key {
+    padded: [u8; 40],
+    len: u8,
+}
+
+impl Model for Key {
+    ghost use Rattle.std.specs.Prelude.{◌≡◌, ◌-◌, ◌≤◌, ◌++◌, List, ℕ, length, take, drop, replicate};
+    ghost use Rattle.std.proofs.Common.{arith, length-take-le};
+    ghost use Rattle.jet_items.specs.KeyBytes.{IsKey, padded_back};
+
+    ghost Value = { List ℕ };
+
+    ghost view = { λ k. take k.len k.padded };
+
+    ghost invariant = { λ k. (k.len ≤ 40) × (length k.padded ≡ 40) × (drop k.len k.padded ≡ replicate (40 - k.len) 0) × IsKey 40 (take k.len k.padded) };
+
+    ghost inverse = { λ bytes. record { padded = bytes ++ replicate (40 - length bytes) 0; len = length bytes } };
+
+    ghost inverse_ok = { λ k h i. record {
+      padded = padded_back k.len k.padded h.0 h.1 h.2 i;
+      len = length-take-le k.len k.padded (Prim.omega (arith, h.0, h.1)) i;
+    } };
+}
+
+impl Key {
+    ghost use Rattle.jet_items.specs.KeyFaults.{key_at};
+
+    /// The key of these bytes, or the first fault of them.
+    pub fn read(bytes: &[u8], most: u8) -> Result<Key, KeyFault>
+        requires { (1 ≤ most) × (most ≤ 40) }
+        ensures value { result ≡ key_at most bytes.now }
+    {
+        if bytes.is_empty() {
+            return Err(KeyFault::Empty);
+        }
+        if bytes.len() > most as usize {
+            return Err(KeyFault::Long);
+        }
+        match first_bad(bytes) {
+            Some(at) => Err(KeyFault::BadByte(at as u32)),
+            None => Ok(key_of(bytes)),
+        }
+    }
+
+    /// The bytes.
+    pub fn bytes(&self) -> &[u8]
+        ensures bytes { result.now ≡ self.now }
+        ensures key { IsKey 40 self.now }
+    {
+        &self.padded[..self.len as usize]
+    }
+}
+
+impl PartialEq for Key {
+    ghost eq = { pointwise ◌==◌ };
+
+    ghost laws = { Prim.search (comparing, rules) };
+
+    fn eq(&self, other: &Key) -> bool {
+        self.bytes() == other.bytes()
+    }
+}
+
+impl Eq for Key {
+    ghost laws = { Prim.search (comparing, rules) };
+}
+
+impl PartialOrd for Key {
+    ghost partial_cmp = { as_partial_cmp (slice_cmp nat_cmp) };
+
+    ghost laws = { partial_order_from_own_ties (Prim.search (comparing, rules)) (Prim.search (comparing, rules)) };
+
+    fn partial_cmp(&self, other: &Key) -> Option<Ordering> {
+        Some(self.cmp(other))
+    }
+}
+
+impl Ord for Key {
+    ghost cmp = { slice_cmp nat_cmp };
+
+    ghost total = { Prim.search (comparing, rules) };
+
+    ghost matches_partial_cmp = { Prim.search (comparing, rules) };
+
+    ghost matches_eq = { Prim.search (comparing, rules) };
+
+    fn cmp(&self, other: &Key) -> Ordering {
+        self.bytes().cmp(other.bytes())
+    }
+}
+
+fn is_key_byte(b: u8) -> bool
+    ensures { result ≡ is_key_byte b }
+{
+    matches!(b, b'a'..=b'z' | b'A'..=b'Z' | b'0'..=b'9' | b'_' | b'-' | b'.' | b':' | b'/')
+}
+
+// Where the first byte stands that no key has.
+fn first_bad(bytes: &[u8]) -> Option<usize>
+    ensures place { result ≡ position (λ b. not (is_key_byte b)) bytes.now }
+    ensures bound { IfSome result (λ at. at < length bytes.now) }
+{
+    bytes.iter().position(|b| !is_key_byte(*b))
+}
+
+// The key of bytes that are one.
+fn key_of(bytes: &[u8]) -> Key
+    requires { IsKey 40 bytes.now }
+    ensures { result ≡ bytes.now }
+{
+    Key {
+        padded: padded_with(bytes),
+        len: bytes.len() as u8,
+    }
+}
+
+// The bytes, and zeros behind them.
+fn padded_with(bytes: &[u8]) -> [u8; 40]
+    requires { length bytes.now ≤ 40 }
+    ensures { result ≡ bytes.now ++ replicate (40 - length bytes.now) 0 }
+{
+    let mut padded = [0; 40];
+    padded[..bytes.len()].copy_from_slice(bytes);
+    padded
+}

@@ -1,0 +1,29 @@
+// Side rows: one line each of the table that a hash join looks keys up in.
+use crate::Key;
+use std::marker::Model;
+
+/// A row of a side file.
+///
+/// `label` may take the key's place in a joined event, and the values `v` lie within 10^15 of 0. `line` is the row's
+/// line in its file, from 1 on.
+#[derive(Clone, Copy)]
+pub struct Side {
+    pub line: u32,
+    pub key: Key,
+    pub label: Key,
+    pub v: [i64; 4],
+}
+
+impl Model for Side {
+    ghost use Rattle.std.specs.List.{AllByRecursion};
+    ghost use Rattle.jet_items.specs.Ranges.{IsWithin, most_time};
+    ghost use Rattle.jet_items.specs.Values.{SideValue};
+
+    ghost Value = { SideValue };
+
+    ghost view = { λ s. record { line = s.line; key = s.key; label = s.label; v = s.v } };
+
+    ghost invariant = { λ s. AllByRecursion (IsWithin most_time) s.v };
+
+    ghost inverse = { λ s. record { line = s.line; key = s.key; label = s.label; v = s.v } };
+}
