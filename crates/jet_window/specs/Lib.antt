@@ -1,0 +1,5 @@
+pub mod Held
+pub mod InOrder
+pub mod Plain
+pub mod PlainLaws
+pub mod Tables
