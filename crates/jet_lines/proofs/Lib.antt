@@ -1,0 +1,10 @@
+pub mod CsvLemmas
+pub mod CutLemmas
+pub mod Examples
+pub mod FileLemmas
+pub mod FormLemmas
+pub mod GrammarLemmas
+pub mod SettledLemmas
+pub mod SplitLemmas
+pub mod TestLemmas
+pub mod WholeLemmas

@@ -1,0 +1,11 @@
+pub mod Cutting
+pub mod Faults
+pub mod Feeds
+pub mod Files
+pub mod Grammar
+pub mod Held
+pub mod Lines
+pub mod LinesValue
+pub mod Numbers
+pub mod Readings
+pub mod Scan

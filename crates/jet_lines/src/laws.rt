@@ -1,0 +1,108 @@
+// Laws of the definitions. Their functions do nothing: what they promise holds of all that it speaks of.
+//
+// The first four say that what is read from the left, and what csv reads, is what the grammar says, and that
+// `Lines::next` has one right answer. The others are for a loop over the lines of a source file (`events`) or of a side
+// file (`sides`): it has read some lines, all of them good, and takes one more.
+ghost use Rattle.std.specs.Prelude.{◌≡◌, ◌≢◌, ◌↔◌, ◌+◌, ◌<◌, ◌≤◌, ◌∷◌, ◌++◌, [], ℕ, List, length, Option, Some, None, Ok, Err, true};
+ghost use Rattle.std.specs.List.{list_all};
+ghost use Rattle.csv.specs.Machine.{next_record};
+ghost use Rattle.csv.specs.Reading.{default_config, strip_bom};
+ghost use Rattle.csv.specs.declared.parser.State.TheVariants as state;
+ghost use Rattle.jet_lines.specs.Cutting.{NextIs};
+ghost use Rattle.jet_lines.specs.Files.{are_good, EndAt, GoOn, HoldAll, whole_lines};
+ghost use Rattle.jet_lines.specs.Feeds.{NoFeed};
+ghost use Rattle.jet_lines.specs.Grammar.{IsLine, is_line_byte};
+ghost use Rattle.jet_lines.specs.Lines.{lines_of};
+ghost use Rattle.jet_lines.specs.LinesValue.{LinesValue};
+ghost use Rattle.jet_lines.specs.Readings.{event_at, line_at, side_at};
+ghost use Rattle.jet_items.specs.Values.{EventValue, SideValue};
+ghost use Rattle.jet_lines.specs.Scan.{fields_of};
+ghost use Rattle.jet_lines.specs.declared.cut.Cut.{Cut};
+ghost use Rattle.jet_lines.specs.declared.fault.LineFault.{LineFault};
+ghost use Rattle.jet_lines.specs.declared.fault.LineFault.TheVariants.{TooLong, TooMany};
+
+/// The fields that are read of a line are those of which the grammar makes it, and no others.
+pub fn fields_are_of_the_grammar()
+    ensures { (line : List ℕ) (fields : List (List ℕ)) → (fields_of line ≡ Some fields) ↔ IsLine line fields }
+{}
+
+/// No fields are read of a line exactly where the grammar makes it of none.
+pub fn no_fields_where_the_grammar_has_none()
+    ensures { (line : List ℕ) → (fields_of line ≡ None) ↔ ((fields : List (List ℕ)) → IsLine line fields → ⊥) }
+{}
+
+/// What csv reads of a line, where its bytes and its form are good, are its fields, and then nothing is left.
+pub fn csv_reads_the_fields()
+    ensures { (line : List ℕ) (fields : List (List ℕ)) → line ≢ [] → list_all is_line_byte line ≡ true → fields_of line ≡ Some fields
+        → next_record default_config state.StartRecord [] [] (strip_bom line) ≡ Some (fields, state.StartRecord, []) }
+{}
+
+/// What `Lines::next` answers is settled by what it has: no two of its answers can both be right.
+pub fn answers_are_settled()
+    ensures { (v x y : LinesValue) (a b : Cut) → NextIs v a x → NextIs v b y → a ≡ b }
+{}
+
+/// One more good line: the lines are good still, and give what they gave and what that line holds, if anything.
+pub fn a_good_line_more()
+    ensures events { (part most : ℕ) (given : List (List ℕ)) (line : List ℕ) (found : Option EventValue)
+        → are_good (event_at part) most given ≡ true → length given < most → line_at (event_at part (length given + 1)) line ≡ Ok found
+        → GoOn (event_at part) most given line found }
+    ensures sides { (most : ℕ) (given : List (List ℕ)) (line : List ℕ) (found : Option SideValue)
+        → are_good side_at most given ≡ true → length given < most → line_at (side_at (length given + 1)) line ≡ Ok found
+        → GoOn side_at most given line found }
+{}
+
+/// Behind good lines a line with a fault is the first bad one, and the file gives what was given before it.
+pub fn the_first_bad_line()
+    ensures events { (part most : ℕ) (content : List ℕ) (given : List (List ℕ)) (line : List ℕ) (others : List (List ℕ)) (fault : LineFault)
+        → are_good (event_at part) most given ≡ true → lines_of content ≡ given ++ line ∷ others → length given < most → line_at (event_at part (length given + 1)) line ≡ Err fault
+        → EndAt (event_at part) most content given fault }
+    ensures sides { (most : ℕ) (content : List ℕ) (given : List (List ℕ)) (line : List ℕ) (others : List (List ℕ)) (fault : LineFault)
+        → are_good side_at most given ≡ true → lines_of content ≡ given ++ line ∷ others → length given < most → line_at (side_at (length given + 1)) line ≡ Err fault
+        → EndAt side_at most content given fault }
+{}
+
+/// The same of a line with more than 512 bytes, whatever they are.
+pub fn a_line_too_long()
+    ensures events { (part most : ℕ) (content : List ℕ) (given : List (List ℕ)) (line : List ℕ) (others : List (List ℕ))
+        → are_good (event_at part) most given ≡ true → lines_of content ≡ given ++ line ∷ others → length given < most → 512 < length line
+        → EndAt (event_at part) most content given TooLong }
+    ensures sides { (most : ℕ) (content : List ℕ) (given : List (List ℕ)) (line : List ℕ) (others : List (List ℕ))
+        → are_good side_at most given ≡ true → lines_of content ≡ given ++ line ∷ others → length given < most → 512 < length line
+        → EndAt side_at most content given TooLong }
+{}
+
+/// The same of a line more than the file may have, whatever it is.
+pub fn one_line_too_many()
+    ensures events { (part most : ℕ) (content : List ℕ) (given : List (List ℕ)) (line : List ℕ) (others : List (List ℕ))
+        → are_good (event_at part) most given ≡ true → lines_of content ≡ given ++ line ∷ others → most ≤ length given
+        → EndAt (event_at part) most content given TooMany }
+    ensures sides { (most : ℕ) (content : List ℕ) (given : List (List ℕ)) (line : List ℕ) (others : List (List ℕ))
+        → are_good side_at most given ≡ true → lines_of content ≡ given ++ line ∷ others → most ≤ length given
+        → EndAt side_at most content given TooMany }
+{}
+
+/// Where all lines are good none is the first bad one, and the file gives what its lines hold, in their order.
+pub fn all_lines_are_good()
+    ensures events { (part most : ℕ) (content : List ℕ)
+        → are_good (event_at part) most (lines_of content) ≡ true
+        → HoldAll (event_at part) most content }
+    ensures sides { (most : ℕ) (content : List ℕ)
+        → are_good side_at most (lines_of content) ≡ true
+        → HoldAll side_at most content }
+{}
+
+/// The lines that end with a line feed are those of the bytes up to and with the last one.
+pub fn whole_lines_end_with_a_line_feed()
+    ensures some { (front rest : List ℕ) → NoFeed rest (length rest) → whole_lines (front ++ 10 ∷ rest) ≡ lines_of (front ++ 10 ∷ []) }
+    ensures none { (rest : List ℕ) → NoFeed rest (length rest) → whole_lines rest ≡ [] }
+{}
+
+/// Lines that are the file's first ones however it goes on end with a line feed each; and there are no others where no
+/// line feed is left.
+pub fn given_lines_are_whole()
+    ensures among { (content rest : List ℕ) (given : List (List ℕ)) → ((more : List ℕ) → lines_of (content ++ more) ≡ given ++ lines_of (rest ++ more))
+        → (others : List (List ℕ)) × (whole_lines content ≡ given ++ others) }
+    ensures all { (content rest : List ℕ) (given : List (List ℕ)) → ((more : List ℕ) → lines_of (content ++ more) ≡ given ++ lines_of (rest ++ more))
+        → NoFeed rest (length rest) → whole_lines content ≡ given }
+{}
