@@ -1,0 +1,185 @@
+// An outside in memory, for tests, worked rows and trials. Each call does first what may want memory, so that a call
+// that finds none leaves all as it was.
+ghost use Rattle.std.specs.Prelude.{◌≡◌, ◌≤◌, ◌+◌, ◌-◌, ◌^◌, ◌++◌, [], ◌∷◌, ◌==◌, ℕ, List, min, false, length, map, IfOk, OnOk, OnErr, None};
+ghost use Rattle.std.specs.Result.{IsOk};
+ghost use Rattle.jet_file.specs.Outside.{Entry, Wrote};
+ghost use Rattle.jet_file.specs.declared.outside.Out.{Out};
+
+use crate::stored::{OpenedFile, StoredFile, bytes_left, has_file, push_place, take_bytes};
+use crate::trace::{Note, Trace};
+use crate::{CallNote, FileNo, Out, OutFault, Outside};
+use jet_items::NoMemory;
+use std::alloc::{AllocError, Global};
+
+/// Files in memory, and outputs that can be read. It tells all.
+#[derive(Drop)]
+pub struct MemoryOutside {
+    alloc: Global,
+    files: Vec<StoredFile>,
+    opened: Vec<OpenedFile>,
+    rows: Vec<u8>,
+    notes: Vec<u8>,
+    trace: Trace,
+    fail: Vec<u64>,
+    called: u64,
+    most: usize,
+    faults: u64,
+    ghost most_low: { 1 ≤ most },
+}
+
+impl MemoryOutside {
+    ghost use Rattle.jet_file.specs.Memory.{memory_told, memory_opened, memory_steady, memory_faults, KeepsCalls};
+    ghost use Rattle.jet_file.specs.Outside.{Told, AddsFile};
+    ghost use Rattle.jet_file.specs.Trace.{note_of};
+
+    /// An outside with no files. The calls with the numbers in `fail`, from 1 on over all calls, answer Failed, and
+    /// each call moves at most `most` bytes.
+    pub fn new(alloc: Global, fail: Vec<u64>, most: usize) -> Result<MemoryOutside, NoMemory>
+        requires { 1 ≤ most }
+        ensures ok { IsOk result }
+        ensures content { IfOk result (λ m. (name : List ℕ) → (memory_told m).content name ≡ None) }
+        ensures written { IfOk result (λ m. (to : Out) → (memory_told m).written to ≡ []) }
+        ensures trace { IfOk result (λ m. (memory_told m).trace ≡ []) }
+        ensures opened { IfOk result (λ m. (file : ℕ) → memory_opened m file ≡ false) }
+        ensures steady { IfOk result (λ m. memory_steady m ≡ (length fail.items == 0)) }
+        ensures faults { IfOk result (λ m. memory_faults m ≡ 0) }
+    {
+        Ok(MemoryOutside {
+            alloc,
+            files: Vec::new(alloc),
+            opened: Vec::new(alloc),
+            rows: Vec::new(alloc),
+            notes: Vec::new(alloc),
+            trace: Trace::new(alloc),
+            fail,
+            called: 0,
+            most,
+            faults: 0,
+        })
+    }
+
+    /// Adds a file.
+    pub fn add(&mut self, name: &[u8], content: Vec<u8>) -> Result<(), NoMemory>
+        requires { (memory_told self.old).content name.now ≡ None }
+        ensures ok { OnOk result (AddsFile name.now content.items (memory_told self.old) (memory_told self.new)) }
+        ensures err { OnErr result (memory_told self.new ≡ memory_told self.old) }
+        ensures calls { KeepsCalls self.old self.new }
+    {
+        let name = name.to_vec(self.alloc)?;
+        self.files.push(StoredFile { name, content })?;
+        Ok(())
+    }
+
+    /// What was written to an output.
+    pub fn written(&self, to: Out) -> &[u8]
+        ensures { result.now ≡ (memory_told self.now).written to }
+    {
+        match to {
+            Out::Rows => &self.rows,
+            Out::Notes => &self.notes,
+        }
+    }
+
+    /// All calls so far, in order and in short.
+    pub fn calls(&self) -> &[CallNote]
+        ensures { result.now ≡ map note_of (memory_told self.now).trace }
+    {
+        self.trace.short()
+    }
+
+    // Counts the next call, and answers whether it is to fail.
+    fn is_failing(&mut self) -> bool
+        ensures files { self.new.files ≡ self.old.files }
+        ensures opened { self.new.opened ≡ self.old.opened }
+        ensures rows { self.new.rows ≡ self.old.rows }
+        ensures notes { self.new.notes ≡ self.old.notes }
+        ensures trace { self.new.trace ≡ self.old.trace }
+        ensures faults { self.new.faults ≡ self.old.faults }
+        ensures fail { self.new.fail ≡ self.old.fail }
+        ensures steady { length self.old.fail.items ≡ 0 → result ≡ false }
+    {
+        let call = self.called.saturating_add(1);
+        self.called = call;
+        !self.fail.is_empty() && self.fail.contains(&call)
+    }
+
+    // Counts a fault.
+    fn count_fault(&mut self)
+        ensures { self.new ≡ record self.old { faults = min (self.old.faults + 1) (2 ^ 64 - 1) } }
+    {
+        self.faults = self.faults.saturating_add(1);
+    }
+}
+
+// Appends bytes to an output, and the call to the trace.
+fn append(output: &mut Vec<u8>, trace: &mut Trace, to: Out, bytes: &[u8]) -> Result<(), AllocError>
+    ensures ok { OnOk result ((output.new.items ≡ output.old.items ++ bytes.now) × (trace.new ≡ trace.old ++ Wrote to (length bytes.now) ∷ [])) }
+    ensures err { OnErr result ((output.new.items ≡ output.old.items) × (trace.new ≡ trace.old)) }
+{
+    output.reserve(bytes.len())?;
+    trace.push(Note::Wrote(to, bytes.len()))?;
+    output.extend_from_slice(bytes)?;
+    Ok(())
+}
+
+impl Outside for MemoryOutside {
+    ghost use Rattle.std.specs.Prelude.{Some, ◌-◌, ◌^◌, min};
+    ghost use Rattle.jet_file.specs.Memory.{memory_told, memory_opened, memory_steady, memory_faults};
+    ghost use Rattle.std.proofs.Common.{arith};
+
+    ghost told = { λ m. Some (memory_told m) };
+
+    ghost opened = { memory_opened };
+
+    ghost faults = { memory_faults };
+
+    ghost steady = { memory_steady };
+
+    ghost faults_bound = { λ m. Prim.omega arith };
+
+    fn open_file(&mut self, name: &[u8]) -> Result<FileNo, OutFault> {
+        let failing = self.is_failing();
+        let asked = name.to_vec(self.alloc)?;
+        if failing || !has_file(&self.files, name) {
+            self.trace.push(Note::MissedOpen(asked))?;
+            self.count_fault();
+            return Err(OutFault::Failed);
+        }
+        if self.opened.len() >= 0xffff_ffff {
+            return Err(OutFault::NoMemory);
+        }
+        let file = self.opened.len() as u32;
+        let kept = name.to_vec(self.alloc)?;
+        self.opened.reserve(1)?;
+        self.trace.push(Note::Opened(asked, file))?;
+        push_place(&mut self.opened, kept)?;
+        Ok(file)
+    }
+
+    fn read(&mut self, file: FileNo, buf: &mut [u8]) -> Result<usize, OutFault> {
+        if self.is_failing() {
+            self.trace.push(Note::MissedRead(file))?;
+            self.count_fault();
+            return Err(OutFault::Failed);
+        }
+        let left = bytes_left(&self.files, &self.opened, file);
+        let count = self.most.min(buf.len()).min(left);
+        self.trace.push(Note::Read(file, count))?;
+        take_bytes(&self.files, &mut self.opened, file, count, buf);
+        Ok(count)
+    }
+
+    fn write(&mut self, to: Out, buf: &[u8]) -> Result<usize, OutFault> {
+        if self.is_failing() {
+            self.trace.push(Note::MissedWrite(to))?;
+            self.count_fault();
+            return Err(OutFault::Failed);
+        }
+        let count = self.most.min(buf.len());
+        match to {
+            Out::Rows => append(&mut self.rows, &mut self.trace, to, &buf[..count])?,
+            Out::Notes => append(&mut self.notes, &mut self.trace, to, &buf[..count])?,
+        }
+        Ok(count)
+    }
+}
