@@ -1,5 +1,5 @@
 -- The content of an added file.
-use Rattle.std.proofs.Common.{◌≡◌, ℕ, List, [], ◌∷◌, ◌++◌, Bool, true, false, cond, Option, Some, None, refl, subst, eq-eqb, ◌≢◌, true≢false, sym, ◌∙◌}
+use Rattle.std.proofs.Common.{◌≡◌, ℕ, List, [], ◌∷◌, ◌++◌, Bool, true, false, cond, Option, Some, None, refl, subst, eq-eqb, ◌≢◌}
 use Rattle.std.specs.Prelude.{find, bytes_eq, option_map}
 use Rattle.jet_file.specs.Contents.{content_in}
 use Rattle.jet_file.specs.declared.stored.StoredFile.{StoredFile}

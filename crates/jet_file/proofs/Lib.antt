@@ -1,3 +1,7 @@
 pub mod ContentLemmas
+pub mod Examples
+pub mod GoesLemmas
+pub mod PaceLemmas
+pub mod ReadLemmas
 pub mod TextLemmas
 pub mod WriteLemmas

@@ -1,5 +1,5 @@
 -- A run of writes, one write at a time.
-use Rattle.std.proofs.Common.{rules, ◌≡◌, ◌≢◌, ℕ, ◌+◌, ◌<◌, ◌≤◌, List, [], ◌∷◌, ◌++◌, length, take, drop, map, sum, Bool, Option, Some, None, refl, ap, sym, ◌∙◌, append_assoc, append-nil, arith, length-append, length-take-le, All}
+use Rattle.std.proofs.Common.{rules, ◌≡◌, ℕ, ◌+◌, ◌<◌, ◌≤◌, List, [], ◌∷◌, ◌++◌, length, take, drop, map, sum, Bool, Option, Some, None, refl, ap, sym, ◌∙◌, append_assoc, append-nil, arith, length-take-le, All}
 use Rattle.std.proofs.Math.Seq.{take-add}
 use Rattle.std.proofs.lemmas.List.{map-append}
 use Rattle.std.proofs.lemmas.List.Sums.{fold-append}
@@ -8,7 +8,7 @@ use Rattle.jet_file.specs.Outside.{Told, Entry, Wrote, Missed, Writing, Goes, Wr
 use Rattle.jet_file.specs.declared.outside.Out.{Out}
 use Rattle.jet_file.specs.declared.outside.OutFault.{OutFault}
 use Rattle.jet_file.specs.declared.outside.OutFault.TheVariants.{Failed, NoMemory}
-use Rattle.jet_file.specs.Writing.{HasWritten, WritesFront, missed}
+use Rattle.jet_file.specs.Writing.{HasWritten, WritesFront}
 
 -- what a loop of writes keeps: the first `done` bytes were written
 pub record SoFar {S : Type 0} (told : S → Option Told) (opened : S → ℕ → Bool) (steady : S → Bool) (faults : S → ℕ) (to : Out) (bytes : List ℕ) (done : ℕ) (old now : S) : Type 0 where

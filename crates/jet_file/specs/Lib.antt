@@ -1,8 +1,11 @@
 pub mod Causes
 pub mod Contents
+pub mod Headline
 pub mod Memory
 pub mod Outside
+pub mod Pace
 pub mod Places
+pub mod Reading
 pub mod Text
 pub mod Trace
 pub mod Writing

@@ -7,6 +7,7 @@ use Rattle.jet_file.specs.Contents.{content_in}
 use Rattle.jet_file.specs.Places.{place_in}
 use Rattle.jet_file.specs.declared.memory.MemoryOutside.{MemoryOutside}
 
+-- what was written to each output
 abbrev pub written_in : List ℕ → List ℕ → Out → List ℕ
 written_in rows notes Rows = rows
 written_in rows notes Notes = notes

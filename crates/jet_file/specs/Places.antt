@@ -9,6 +9,7 @@ use Rattle.jet_file.specs.declared.stored.OpenedFile.{OpenedFile}
 abbrev pub no_place : Place
 no_place = record { name = []; taken = 0 }
 
+-- the place that an opened file stands at
 abbrev pub place_from : Option OpenedFile → Place
 place_from None = no_place
 place_from (Some o) = record { name = o.name.items; taken = o.taken }

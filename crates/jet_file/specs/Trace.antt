@@ -1,5 +1,4 @@
 -- The calls that an outside in memory has had, whole and in short.
-use Rattle.std.specs.Prelude.{ℕ}
 use Rattle.jet_file.specs.Outside.{Entry, Opened, Read, Wrote, Missed, Opening, Reading, Writing}
 use Rattle.jet_file.specs.declared.trace.Note.{Note}
 use Rattle.jet_file.specs.declared.trace.Note.TheVariants as whole

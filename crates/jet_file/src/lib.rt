@@ -17,3 +17,6 @@ pub use outside::{FileNo, Out, OutFault, Outside};
 pub use text::{print_late, print_row};
 pub use trace::CallNote;
 pub use write::write_all;
+
+#[cfg(test)]
+mod tests;

@@ -1,10 +1,8 @@
-use Rattle.std.proofs.Common.{rules, ◌≡◌, ◌+◌, ◌-◌, ◌≤◌, ◌<◌, ℕ, List, ◌∙◌, sym, ap, subst, arith, length, take, drop, length-drop}
+use Rattle.std.proofs.Common.{◌≡◌, ◌+◌, ◌-◌, ◌≤◌, ◌<◌, ℕ, List, ◌∙◌, subst, arith, length, take, drop, length-drop}
 use Rattle.std.proofs.lemmas.List.{take_all}
 use Rattle.std.proofs.lemmas.Result.{err_from_is_err_and}
-use Rattle.jet_file.specs.Outside.{Goes, WritesBytes, Stays, Writing}
-use Rattle.jet_file.specs.Writing.{WritesAll}
-use Rattle.jet_file.specs.declared.outside.OutFault.{OutFault}
-use Rattle.jet_file.proofs.WriteLemmas.{SoFar, goes_more, goes_stop}
+use Rattle.jet_file.specs.Outside.{Goes, WritesBytes}
+use Rattle.jet_file.proofs.WriteLemmas.{goes_more, goes_stop}
 use Rattle.jet_file.proofs.write.write_all.Goals as goal
 
 -- the slice from an index on is the rest of the list

@@ -1,6 +1,5 @@
-use Rattle.std.proofs.Common.{rules, ◌≡◌, ◌≢◌, List, ℕ, subst, sym, Some, ◌∙◌, ap, true, Option}
+use Rattle.std.proofs.Common.{rules, ◌≡◌, List, subst, sym, Some, ◌∙◌}
 use Rattle.std.proofs.lemmas.Slice.Eq.{bytes_eq-Decides}
-use Rattle.std.specs.Prelude.{bytes_eq}
 use Rattle.jet_file.specs.Contents.{content_in}
 use Rattle.jet_file.specs.declared.stored.StoredFile.{StoredFile}
 use Rattle.jet_file.proofs.ContentLemmas.{content_pushed, bytes_same, content_others, not_true}
