@@ -1,0 +1,40 @@
+// Two queues whose watermark rises with the slower one, and ends with the last.
+use super::*;
+use jet_items::Mark;
+use std::test::Fail;
+
+fn time(mark: Option<Mark>) -> Option<i64> {
+    mark.map(|mark| mark.t)
+}
+
+fn raised(change: Change) -> Option<i64> {
+    match change {
+        Change::Raised(mark) => Some(mark.t),
+        _ => None,
+    }
+}
+
+#[test]
+fn the_slower_of_two_queues_decides(rt: HostRuntime) -> Result<(), Fail> {
+    let mut coalescer = Coalescer::new(rt.alloc(), 2)?;
+    assert_eq!(rt; time(coalescer.low()), None);
+    assert_eq!(rt; time(coalescer.observe(0, Mark { t: 5 })), None);
+    assert_eq!(rt; time(coalescer.observe(1, Mark { t: 3 })), Some(3));
+    assert_eq!(rt; time(coalescer.observe(1, Mark { t: 4 })), Some(4));
+    assert_eq!(rt; time(coalescer.observe(1, Mark { t: 2 })), None);
+    assert_eq!(rt; time(coalescer.low()), Some(4));
+    assert_eq!(rt; raised(coalescer.done(1)), Some(5));
+    assert_eq!(rt; matches!(coalescer.done(0), Change::AllDone), true);
+    assert_eq!(rt; time(coalescer.low()), None);
+    Ok(())
+}
+
+#[test]
+fn a_queue_without_a_mark_holds_the_watermark_back(rt: HostRuntime) -> Result<(), Fail> {
+    let mut coalescer = Coalescer::new(rt.alloc(), 3)?;
+    assert_eq!(rt; time(coalescer.observe(0, Mark { t: 5 })), None);
+    assert_eq!(rt; matches!(coalescer.done(0), Change::Unchanged), true);
+    assert_eq!(rt; time(coalescer.observe(1, Mark { t: -7 })), None);
+    assert_eq!(rt; raised(coalescer.done(2)), Some(-7));
+    Ok(())
+}
