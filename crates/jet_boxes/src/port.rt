@@ -1,0 +1,8 @@
+// Ports: what part a queue has in a join.
+
+/// Where an item comes in: with the stream, or with the side rows that a join looks up.
+#[derive(Clone, Copy, Debug, PartialEq, Eq)]
+pub enum Port {
+    Stream,
+    Build,
+}
