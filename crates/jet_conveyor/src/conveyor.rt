@@ -1,0 +1,148 @@
+// A conveyor goes round its queues: from the cursor to the last queue, and then from queue 0 to the cursor. The cursor
+// stands after the queue that was last taken from, and may stand at the number of queues.
+ghost use Rattle.std.specs.Prelude.{◌≡◌, ◌≤◌, ◌<◌, ◌^◌, vec_len};
+
+use jet_items::{Item, NoMemory};
+use jet_ring::{Rx, Tx, refresh};
+use std::alloc::Global;
+
+/// What a poll gave: an item and the number of its queue, or nothing.
+#[derive(Clone, Copy)]
+pub enum Polled {
+    Taken(u32, Item),
+    Nothing,
+}
+
+/// The queues of one consumer.
+#[derive(Drop)]
+pub struct Conveyor {
+    queues: Vec<Rx<Item>>,
+    // For each queue, whether it gave `Done`.
+    closed: Vec<bool>,
+    // The queue that the next poll looks at first.
+    next: usize,
+    ghost one_each: { vec_len closed ≡ vec_len queues },
+    ghost few: { vec_len queues < 2 ^ 32 },
+    ghost inside: { next ≤ vec_len queues },
+}
+
+impl Conveyor {
+    ghost use Rattle.std.specs.Prelude.{◌≡◌, ◌≤◌, ◌<◌, ◌↔◌, ◌^◌, ◌+◌, ◌++◌, ◌⊎◌, [], map, false, true, vec_len, length, slice_get, IfOk, IsOk, IsTrue, All};
+    ghost use Rattle.jet_ring.specs.Ring as ring;
+    ghost use Rattle.jet_conveyor.specs.Conveyor.{view, received_at, known_at, is_done_at, IsNew, TookFrom, NoneKnown, InTurn, Refreshed, SeesMore, IsClosed};
+    ghost use Rattle.jet_conveyor.specs.Polled.{IfTaken, OnNothing};
+
+    /// A conveyor over these queues, none of them done.
+    pub fn new(alloc: Global, queues: Vec<Rx<Item>>) -> Result<Conveyor, NoMemory>
+        requires { vec_len queues < 2 ^ 32 }
+        ensures new { IfOk result (λ c. IsNew (view c) queues.items) }
+        ensures closed { IfOk result (λ c. All (λ rx. ring.received rx ≡ []) queues.items → IsClosed (view c)) }
+    {
+        let closed = vec![in alloc; false; queues.len()]?;
+        Ok(Conveyor {
+            queues,
+            closed,
+            next: 0,
+        })
+    }
+
+    /// Takes the next item of the first queue in turn that has one.
+    pub fn poll(&mut self) -> Polled
+        ensures taken { IfTaken result (λ q x. (q < length (view self.old).rings) × TookFrom (view self.old) (view self.new) q x) }
+        ensures in_turn { IfTaken result (λ q _. InTurn (view self.old) q) }
+        ensures nothing { OnNothing result (view self.new ≡ view self.old) }
+        ensures cause { OnNothing result (NoneKnown (view self.old) 0 (length (view self.old).rings)) }
+        ensures seen { SeesMore (view self.old) (view self.new) }
+        ensures closed { IsClosed (view self.old) → IsClosed (view self.new) }
+    {
+        let next = self.next;
+        let count = self.queues.len();
+        match self.poll_span(next, count) {
+            Polled::Taken(q, item) => Polled::Taken(q, item),
+            Polled::Nothing => self.poll_span(0, next),
+        }
+    }
+
+    /// Takes the next item of one queue.
+    pub fn poll_of(&mut self, queue: u32) -> Polled
+        requires { queue < length (view self.old).rings }
+        ensures taken { IfTaken result (λ q x. (q ≡ queue) × TookFrom (view self.old) (view self.new) queue x) }
+        ensures nothing { OnNothing result (view self.new ≡ view self.old) }
+        ensures cause { OnNothing result ((is_done_at (view self.old) queue ≡ true) ⊎ (known_at (view self.old) queue ≡ [])) }
+        ensures seen { SeesMore (view self.old) (view self.new) }
+        ensures closed { IsClosed (view self.old) → IsClosed (view self.new) }
+    {
+        if self.closed[queue as usize] {
+            return Polled::Nothing;
+        }
+        self.take_from(queue as usize)
+    }
+
+    /// Whether every queue is done. It is so where there is none.
+    pub fn all_done(&self) -> bool
+        ensures { IsTrue result ↔ All (λ d. d ≡ true) (view self.now).done }
+    {
+        self.closed.iter().all(|d| *d)
+    }
+
+    /// The number of queues.
+    pub fn queues(&self) -> u32
+        ensures { result ≡ length (view self.now).rings }
+    {
+        self.queues.len() as u32
+    }
+
+    /// A meeting of the two ends of one queue's ring. It takes no memory, as `refresh`.
+    pub fn refresh_queue(&mut self, queue: u32, tx: &mut Tx<Item>) -> Result<(), NoMemory>
+        requires { slice_get (view self.old).rings queue ≡ Some (ring.tx_ring tx.old) }
+        ensures answer { IsOk result }
+
+        // nothing is sent or taken, and no other queue changes
+        ensures view { Refreshed (view self.old) (view self.new) queue }
+        ensures ring { ring.tx_ring tx.new ≡ ring.tx_ring tx.old }
+        ensures sent { ring.sent tx.new ≡ ring.sent tx.old }
+
+        // every item that was sent is received or known, and every other slot is known to be free
+        ensures all { received_at (view self.new) queue ++ known_at (view self.new) queue ≡ ring.sent tx.new }
+        ensures free { ring.known_free tx.new + length (known_at (view self.new) queue) ≡ ring.tx_cap tx.new }
+        ensures slots { (2 ≤ ring.tx_cap tx.new) × (ring.tx_cap tx.new ≤ 65536) }
+
+        // no end knows less than before
+        ensures seen { SeesMore (view self.old) (view self.new) }
+        ensures reach { ring.reach tx.old ≤ ring.reach tx.new }
+    {
+        refresh(tx, &mut self.queues[queue as usize])
+    }
+
+    // Takes from one queue, which exists and is not done.
+    fn take_from(&mut self, queue: usize) -> Polled
+        requires exists { queue < length (view self.old).rings }
+        requires was_open { is_done_at (view self.old) queue ≡ false }
+        ensures taken { IfTaken result (λ q x. (q ≡ queue) × TookFrom (view self.old) (view self.new) queue x) }
+        ensures nothing { OnNothing result ((view self.new ≡ view self.old) × (known_at (view self.old) queue ≡ [])) }
+    {
+        let Some(item) = self.queues[queue].take() else {
+            return Polled::Nothing;
+        };
+        self.closed[queue] = item.is_done();
+        self.next = queue + 1;
+        Polled::Taken(queue as u32, item)
+    }
+
+    // Takes from the first queue in a span that has an item.
+    fn poll_span(&mut self, from: usize, to: usize) -> Polled
+        requires { to ≤ length (view self.old).rings }
+        ensures taken { IfTaken result (λ q x. (from ≤ q) × (q < to) × TookFrom (view self.old) (view self.new) q x × NoneKnown (view self.old) from q) }
+        ensures nothing { OnNothing result ((view self.new ≡ view self.old) × NoneKnown (view self.old) from to) }
+    {
+        for queue in from..to {
+            if self.closed[queue] {
+                continue;
+            }
+            if let Polled::Taken(q, item) = self.take_from(queue) {
+                return Polled::Taken(q, item);
+            }
+        }
+        Polled::Nothing
+    }
+}
