@@ -1,0 +1,6 @@
+mod Each
+mod Gifts
+pub mod Lent
+mod Offers
+mod Same
+mod Serving

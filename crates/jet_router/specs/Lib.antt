@@ -1,0 +1,5 @@
+pub mod Aim
+pub mod Dest
+pub mod Gives
+pub mod Lending
+pub mod Router

@@ -1,0 +1,136 @@
+// Routers over two rings of two slots.
+ghost use Rattle.std.specs.Prelude.{◌≡◌, slice_get, IfSome, false, vec_len};
+ghost use Rattle.jet_ring.specs.Ring.{rx_ring};
+ghost use Rattle.jet_router.specs.Router.{view, rings};
+
+use super::*;
+use jet_items::{Event, Item, Key, Mark};
+use jet_ring::{Rx, Tx, ring};
+use std::alloc::Global;
+use std::test::Fail;
+
+struct Made {
+    router: Router,
+    first: Rx<Item>,
+    second: Rx<Item>,
+}
+
+// A broadcast router over two rings.
+fn broadcast(alloc: Global) -> Option<Made>
+    ensures idle { IfSome result (λ m. (view m.router).busy ≡ false) }
+    ensures first { IfSome result (λ m. slice_get (rings (view m.router)) 0 ≡ Some (rx_ring m.first)) }
+    ensures second { IfSome result (λ m. slice_get (rings (view m.router)) 1 ≡ Some (rx_ring m.second)) }
+{
+    let (a, first) = ring::<Item>(alloc, 2).ok()?;
+    let (b, second) = ring::<Item>(alloc, 2).ok()?;
+    let dests = Vec::from_array(alloc, [a, b]).ok()?;
+    let router = Router::broadcast(alloc, dests).ok()?;
+    Some(Made {
+        router,
+        first,
+        second,
+    })
+}
+
+// The event of a line of file 0.
+fn event(key: &[u8], line: u32) -> Option<Item> {
+    let key = Key::read(key, 24).ok()?;
+    Some(Item::Event(Event {
+        part: 0,
+        line,
+        ts: 7,
+        key,
+        v: [0; 4],
+    }))
+}
+
+fn line_of(event: &Event) -> u32 {
+    event.line
+}
+
+// The line of an event, and 0 for anything else.
+fn line_taken(rx: &mut Rx<Item>) -> Option<u32> {
+    let taken = rx.take()?;
+    match &taken {
+        Item::Event(event) => Some(line_of(event)),
+        _ => Some(0),
+    }
+}
+
+#[test]
+fn a_mark_waits_for_a_full_ring(rt: HostRuntime) -> Result<(), Fail> {
+    let Made {
+        mut router,
+        mut first,
+        mut second,
+    } = broadcast(rt.alloc()).ok_or("memory")?;
+    let x = event(b"a", 1).ok_or("key")?;
+    let y = event(b"a", 2).ok_or("key")?;
+    let mark = Item::Mark(Mark::new(5).ok_or("range")?);
+    assert!(rt; matches!(router.give(&x), Given::All));
+    assert!(rt; matches!(router.give(&y), Given::All));
+    assert!(rt; router.refresh_dest(0, &mut first).is_ok());
+    assert!(rt; first.take().is_some());
+    assert!(rt; router.refresh_dest(0, &mut first).is_ok());
+    assert!(rt; matches!(router.give(&mark), Given::Again));
+    assert!(rt; router.refresh_dest(1, &mut second).is_ok());
+    assert!(rt; second.take().is_some());
+    assert!(rt; router.refresh_dest(1, &mut second).is_ok());
+    assert!(rt; matches!(router.give(&mark), Given::All));
+    assert!(rt; router.refresh_dest(0, &mut first).is_ok());
+    assert_eq!(rt; line_taken(&mut first), Some(2));
+    assert_eq!(rt; line_taken(&mut first), Some(0));
+    assert_eq!(rt; line_taken(&mut first), None);
+    Ok(())
+}
+
+// The ends of two rings.
+fn ends(alloc: Global) -> Option<Vec<Tx<Item>>>
+    ensures { IfSome result (λ v. vec_len v ≡ 2) }
+{
+    let (a, _) = ring::<Item>(alloc, 2).ok()?;
+    let (b, _) = ring::<Item>(alloc, 2).ok()?;
+    Vec::from_array(alloc, [a, b]).ok()
+}
+
+// A partitioned router over two rings, of which the second takes all data.
+fn partitioned(alloc: Global) -> Option<Router>
+    ensures { IfSome result (λ r. (view r).busy ≡ false) }
+{
+    let table = vec![in alloc; 1; 271].ok()?;
+    Router::partitioned(alloc, ends(alloc)?, table).ok()
+}
+
+// How many of six gifts of an item are whole.
+fn gifts(mut router: Router, item: &Item) -> u32
+    requires { (view router).busy ≡ false }
+{
+    let mut whole = 0;
+    for number in 1..=6 {
+        if matches!(router.give(item), Given::All) {
+            whole = number;
+        }
+    }
+    whole
+}
+
+#[test]
+fn each_route_gives_what_its_rings_hold(rt: HostRuntime) -> Result<(), Fail> {
+    let alloc = rt.alloc();
+    let x = event(b"a", 1).ok_or("key")?;
+    let mark = Item::Mark(Mark::new(5).ok_or("range")?);
+    let unicast = Router::unicast(alloc, ends(alloc).ok_or("memory")?)
+        .ok()
+        .ok_or("memory")?;
+    assert_eq!(rt; gifts(unicast, &x), 4);
+    let broadcast = Router::broadcast(alloc, ends(alloc).ok_or("memory")?)
+        .ok()
+        .ok_or("memory")?;
+    assert_eq!(rt; gifts(broadcast, &x), 2);
+    let (end, _) = ring::<Item>(alloc, 2).ok().ok_or("memory")?;
+    let isolated = Router::isolated(alloc, end).ok().ok_or("memory")?;
+    assert_eq!(rt; gifts(isolated, &x), 2);
+    assert_eq!(rt; gifts(partitioned(alloc).ok_or("memory")?, &x), 2);
+    assert_eq!(rt; gifts(partitioned(alloc).ok_or("memory")?, &mark), 2);
+    Ok(())
+}
