@@ -1,16 +1,17 @@
 -- A router whose lent end has come back.
-use Rattle.std.proofs.Common.{◌≡◌, ℕ, List, map, set, get_or, slice_get, sym, ◌∙◌, ap, Some, arith, refl, false, ◌≢◌}
-use Rattle.std.proofs.lemmas.List.{map-set, get_or-set_same, get_or-set_other, length-map}
+use Rattle.std.proofs.Common.{◌≡◌, ℕ, ◌+◌, ◌≤◌, List, map, set, get_or, slice_get, length, sym, ◌∙◌, ap, subst, inl, inr, Some, arith, refl, false, ◌≢◌}
+use Rattle.std.proofs.lemmas.Bool.{cases_eq}
+use Rattle.std.proofs.lemmas.List.{map-set, get_or-map, get_or-set_same, get_or-set_other, length-map}
 use Rattle.std.proofs.Math.ListN.{get_or-map as get_or-map_any}
 use Rattle.std.proofs.lemmas.Option.{slice_get_within, get_or_from_slice_get}
 use Rattle.std.proofs.Math.Seq.{map-set_same}
 use Rattle.jet_items.specs.declared.item.Item.{Item}
 use Rattle.jet_ring.specs.declared.ends.Tx.{Tx}
-use Rattle.jet_ring.specs.Ring.{tx_view, TxView, tx_ring, sent}
+use Rattle.jet_ring.specs.Ring.{tx_view, TxView, tx_ring, sent, reach}
 use Rattle.jet_router.specs.declared.dest.Dest.{Dest}
 use Rattle.jet_router.specs.declared.router.Router.{Router}
 use Rattle.jet_router.specs.Dest.{DestView, dest_view}
-use Rattle.jet_router.specs.Router.{view, txs, hads, frees, Refreshed}
+use Rattle.jet_router.specs.Router.{view, txs, hads, frees, reaches, Refreshed}
 use Rattle.jet_router.specs.Lending.{with_tx}
 
 -- the ends are those of before, with the lent one as it came back
@@ -68,3 +69,28 @@ refreshed-with_tx r d was w at ring same =
       busy = refl;
       turn = refl;
     }
+
+-- how far the ends reach, where the lent one came back reaching no less far
+pub reach-with_tx :
+    (r : Router) (d k : ℕ) (was w : Tx Item)
+    → slice_get (txs (view r)) d ≡ Some (tx_view was) → reach was ≤ reach w
+    → get_or (reaches (view r)) k 0 ≤ get_or (reaches (view (with_tx r d was w))) k 0
+reach-with_tx r d k was w at more =
+    let f : TxView Item → ℕ = λ t. length t.sent + t.free in
+    let ts : List (TxView Item) = txs (view r) in
+    elim (cases_eq k d) as (λ _. get_or (reaches (view r)) k 0 ≤ get_or (reaches (view (with_tx r d was w))) k 0) [
+      | inl e ↦
+          let P : ℕ → Type 0 = λ i. get_or (reaches (view r)) i 0 ≤ get_or (reaches (view (with_tx r d was w))) i 0 in
+          let lt = slice_get_within ts d (tx_view was) at in
+          let before : get_or (map f ts) d 0 ≡ f (tx_view was) =
+          get_or-map f ts d (tx_view was) 0 lt ∙ ap f (get_or_from_slice_get ts d (tx_view was) (tx_view was) at) in
+          let after : get_or (map f (txs (view (with_tx r d was w)))) d 0 ≡ f (tx_view w) = at-with_tx f r d was w 0 at in
+          let here : get_or (reaches (view r)) d 0 ≤ get_or (reaches (view (with_tx r d was w))) d 0 = omega (arith, before, after, more) in
+          subst P (sym e) here
+      | inr ne ↦
+          let same : get_or (map f (txs (view (with_tx r d was w)))) k 0 ≡ get_or (map f ts) k 0 =
+          ap (λ us. get_or (map f us) k 0) (txs-with_tx r d was w)
+          ∙ ap (λ l. get_or l k 0) (map-set f ts d (tx_view w))
+          ∙ get_or-set_other (map f ts) d k (f (tx_view w)) 0 ne in
+          omega (arith, same)
+    ]

@@ -33,6 +33,7 @@ pub struct Router {
 impl Router {
     ghost use Rattle.std.specs.Prelude.{◌≡◌, ◌≤◌, ◌<◌, ◌^◌, ◌+◌, ◌++◌, ◌↔◌, ℕ, get_or, [], ◌∷◌, map, false, true, vec_len, length, slice_get, slice_index, IfOk, IsOk, IsTrue, IsFalse, All};
     ghost use Rattle.std.specs.Borrow.{sem};
+    ghost use mathlib.Core.List.{IsPrefix};
     ghost use Rattle.jet_ring.specs.Ring as ring;
     ghost use Rattle.jet_router.specs.Lending.{LendsTx};
     ghost use Rattle.jet_router.specs.Dest.{served, unserved, starts};
@@ -129,6 +130,10 @@ impl Router {
         // every item that was sent is received or known, and every other slot is known to be free
         ensures all { ring.received rx.new ++ ring.known_items rx.new ≡ get_or (sents (view self.new)) dest [] }
         ensures free { get_or (frees (view self.new)) dest 0 + length (ring.known_items rx.new) ≡ ring.rx_cap rx.new }
+
+        // no end knows less than before
+        ensures seen { IsPrefix (ring.seen rx.old) (ring.seen rx.new) }
+        ensures reach { (k : ℕ) → get_or (reaches (view self.old)) k 0 ≤ get_or (reaches (view self.new)) k 0 }
     {
         refresh(self.tx(dest), rx)
     }

@@ -4,7 +4,7 @@ use Rattle.std.proofs.lemmas.Option.{slice_get-map}
 use Rattle.jet_items.specs.declared.item.Item.{Item}
 use Rattle.jet_ring.specs.Ring as ring
 use Rattle.jet_router.specs.Router.{view, txs, rings}
-use Rattle.jet_router.proofs.Lent.{refreshed-with_tx, at-with_tx}
+use Rattle.jet_router.proofs.Lent.{refreshed-with_tx, at-with_tx, reach-with_tx}
 use Rattle.jet_router.proofs.router.Router.refresh_dest.Goals as goal
 
 pub returns-clause-view : goal.returns-clause-view
@@ -25,3 +25,6 @@ returns-clause-free c =
     ap (λ n. n + length (ring.known_items c.refresh.new.rx))
     (at-with_tx (λ t. t.free) c.args.self.now c.args.dest c.tx.result.now c.refresh.new.tx 0 c.tx.ensures.value)
     ∙ c.refresh.ensures.free ∙ cap
+
+pub returns-clause-reach : goal.returns-clause-reach
+returns-clause-reach c k = reach-with_tx c.args.self.now c.args.dest k c.tx.result.now c.refresh.new.tx c.tx.ensures.value c.refresh.ensures.reach
