@@ -1,0 +1,4 @@
+pub mod Accumulated
+pub mod InTimeProof
+pub mod Listed
+pub mod OneTable

@@ -1,0 +1,5 @@
+use Rattle.jet_laws.proofs.InTimeProof.{none_is_behind}
+use Rattle.jet_laws.proofs.marks.none_is_behind.Goals as goal
+
+pub returns : goal.returns
+returns c = none_is_behind

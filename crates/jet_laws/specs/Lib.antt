@@ -1,0 +1,3 @@
+pub mod Accs
+pub mod InTime
+pub mod RowLaws
