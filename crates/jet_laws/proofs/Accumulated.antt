@@ -1,7 +1,6 @@
 -- Values have one accumulator, which is their total, so it goes by bags.
-use Rattle.std.proofs.Common.{◌≡◌, ℕ, ◌+◌, ◌%◌, ◌^◌, List, [], ◌∷◌, length, refl, sym, ◌∙◌, ap, subst, arith, ℤ, pos, ◌+ℤ◌, Option, Some, None}
-use Rattle.std.specs.Prelude.{fold, IsPermutation}
-use Rattle.std.specs.List.{reduce}
+use Rattle.std.proofs.Common.{◌≡◌, ◌+◌, ◌%◌, ◌^◌, List, [], ◌∷◌, refl, sym, ◌∙◌, ap, subst, arith, ℤ, pos, ◌+ℤ◌, Some, None}
+use Rattle.std.specs.Prelude.{fold}
 use Rattle.std.specs.Int.{int_wrap, int_min, int_max, w128}
 use Rattle.std.proofs.lemmas.Int.{ints, int_wrap-add_left, int_wrap-add_right}
 use Rattle.jet_items.specs.Bag.{SameBag}

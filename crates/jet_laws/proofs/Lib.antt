@@ -1,4 +1,5 @@
 pub mod Accumulated
-pub mod InTimeProof
+pub mod InTime
 pub mod Listed
 pub mod OneTable
+pub mod Tables

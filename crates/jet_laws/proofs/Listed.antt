@@ -1,6 +1,7 @@
 -- Elements of lists by recursion, and that a strictly sorted list is one by its elements.
-use Rattle.std.proofs.Common.{◌≡◌, ℕ, zero, suc, ◌+◌, ◌<◌, Bool, true, false, List, [], ◌∷◌, length, refl, sym, ◌∙◌, ap, subst, arith}
-use Rattle.std.specs.Prelude.{All, Any, Contains, slice_index_or}
+use Rattle.std.proofs.Common.{◌≡◌, ℕ, zero, suc, ◌<◌, Bool, true, false, cond, true≢false, List, [], ◌∷◌, length, refl, sym, ◌∙◌, ap, subst, arith}
+use Rattle.std.specs.Prelude.{Any, Contains, slice_index_or, filter}
+use Rattle.std.specs.Ordering.{match_ordering, ordering_reverse}
 use Rattle.std.specs.List.{AllByRecursion}
 use Rattle.std.specs.List.Sorted.{IsStrictlySortedBy}
 use Rattle.std.specs.declared.cmp.Ordering.{Ordering}
@@ -39,6 +40,16 @@ module _ {X : Type 0} where
   pub stands-Any : (P : X → Type 0) (xs : List X) (x : X) → Stands x xs → P x → Any P xs
   stands-Any P xs x h p = let at = stands-Contains xs x h in (at.0, x, at.1, at.2, p)
 
+  -- where an element passes, something is kept
+  pub filter_some : (test : X → Bool) (xs : List X) (x : X) → Stands x xs → test x ≡ true → (y : X) × (ys : List X) × (filter test xs ≡ y ∷ ys)
+  filter_some test [] x h t = absurd h
+  filter_some test (z ∷ zs) x h t = by (λ later. filter_some test zs x later t) (test z) refl h
+    where
+      by : (Stands x zs → (y : X) × (ys : List X) × (filter test zs ≡ y ∷ ys)) → (b : Bool) → test z ≡ b → Stands x (z ∷ zs) → (y : X) × (ys : List X) × (cond b (z ∷ filter test zs) (filter test zs) ≡ y ∷ ys)
+      by on true e h = (z, filter test zs, refl)
+      by on false e (inl is) = absurd (true≢false (sym t ∙ (ap test is ∙ e)))
+      by on false e (inr later) = on later
+
   module _ {R : X → X → Ordering} (o : IsTotalOrder R) where
     pub never_below_itself : {P : Type 0} (x : X) → R x x ≡ Less → P
     never_below_itself x h = let level : Equal ≡ Less = sym (tied_itself o x) ∙ h in absurd (cc)
@@ -63,3 +74,43 @@ module _ {X : Type 0} where
         let same : x ≡ y = head_is x y xs ys s.0 t.0 (there x (inl refl)) (back y (inl refl)) in
         let rest : xs ≡ ys = same_sorted xs ys s.1 t.1 (λ z h. in_tail x y z xs ys same s.0 h (there z (inr h))) (λ z h. in_tail y x z ys xs (sym same) t.0 h (back z (inr h))) in
         ap (λ (w : X). w ∷ xs) same ∙ ap (λ (ws : List X). y ∷ ws) rest
+
+    by_rank : (P : List X → Type 0) (k : Ordering) (xs ys zs : List X) → (k ≡ Less → P xs) → (k ≡ Equal → P ys) → (k ≡ Greater → P zs) → P (match_ordering k xs ys zs)
+    by_rank P Less xs ys zs a b c = a refl
+    by_rank P Equal xs ys zs a b c = b refl
+    by_rank P Greater xs ys zs a b c = c refl
+
+    -- x in its place, unless its like is there
+    abbrev pub put : X → List X → List X
+    put x [] = x ∷ []
+    put x (y ∷ ys) = match_ordering (R x y) (x ∷ y ∷ ys) (y ∷ ys) (y ∷ put x ys)
+
+    pub all_put : (P : X → Type 0) (x : X) (ys : List X) → P x → AllByRecursion P ys → AllByRecursion P (put x ys)
+    all_put P x [] p all = (p, tt)
+    all_put P x (y ∷ ys) p all = by_rank (AllByRecursion P) (R x y) _ _ _ (λ k. (p, all)) (λ k. all) (λ k. (all.0, all_put P x ys p all.1))
+
+    above_all : (x y : X) (ys : List X) → R x y ≡ Less → AllByRecursion (λ z. R y z ≡ Less) ys → AllByRecursion (λ z. R x z ≡ Less) ys
+    above_all x y [] h all = tt
+    above_all x y (z ∷ zs) h all = (o.trans x y z h all.0, above_all x y zs h all.1)
+
+    pub sorted_put : (x : X) (ys : List X) → IsStrictlySortedBy R ys → IsStrictlySortedBy R (put x ys)
+    unfolding IsStrictlySortedBy
+    sorted_put x [] s = (tt, tt)
+    sorted_put x (y ∷ ys) s = by_rank (IsStrictlySortedBy R) (R x y) _ _ _
+        (λ k. ((k, above_all x y ys k s.0), s)) (λ k. s)
+        (λ k. (all_put (λ z. R y z ≡ Less) x ys (o.antisymm y x ∙ ap ordering_reverse k) s.0, sorted_put x ys s.1))
+
+    pub kept_put : (x z : X) (ys : List X) → Stands z ys → Stands z (put x ys)
+    kept_put x z [] h = absurd h
+    kept_put x z (y ∷ ys) h = by_rank (Stands z) (R x y) _ _ _ (λ k. inr h) (λ k. h) (λ k. later (kept_put x z ys) h)
+      where
+        later : (Stands z ys → Stands z (put x ys)) → Stands z (y ∷ ys) → Stands z (y ∷ put x ys)
+        later on (inl is) = inl is
+        later on (inr rest) = inr (on rest)
+
+    -- x or its like is there
+    pub found_put : (x : X) (ys : List X) → (z : X) × Stands z (put x ys) × (R x z ≡ Equal)
+    found_put x [] = (x, inl refl, tied_itself o x)
+    found_put x (y ∷ ys) = by_rank (λ (zs : List X). (z : X) × Stands z zs × (R x z ≡ Equal)) (R x y) _ _ _
+        (λ k. (x, inl refl, tied_itself o x)) (λ k. (y, inl refl, k))
+        (λ k. let at = found_put x ys in (at.0, inr at.1, at.2))

@@ -1,15 +1,14 @@
 -- The rows of windows are one list, whatever the order of the events.
-use Rattle.std.proofs.Common.{◌≡◌, ◌≢◌, ℕ, zero, suc, ◌+◌, ◌<◌, Bool, true, false, cond, ◌&&◌, List, [], ◌∷◌, map, filter, length, refl, sym, ◌∙◌, ap, subst, arith, ℤ, ◌+ℤ◌, ◌-ℤ◌, ◌≤ℤ◌, ◌<ℤ◌}
-use Rattle.std.specs.Prelude.{All, Any, AllPairs, Contains, IsPermutation, bytes_eq, int_le, int_lt, slice_index_or}
+use Rattle.std.proofs.Common.{◌≡◌, ℕ, ◌<◌, Bool, true, false, cond, ◌&&◌, List, [], ◌∷◌, map, length, refl, sym, ◌∙◌, ap, subst, arith, ℤ, ◌+ℤ◌, ◌-ℤ◌, ◌≤ℤ◌, ◌<ℤ◌}
+use Rattle.std.specs.Prelude.{All, Any, Contains, bytes_eq, int_le, int_lt, slice_index_or}
 use Rattle.std.specs.Cmp.Lexicographic.{bytes_decides}
 use Rattle.std.specs.List.{AllZip}
 use Rattle.std.specs.Cmp.{IsTotalOrder}
 use Rattle.std.proofs.lemmas.Bool.{and_parts, cases_order}
 use Rattle.std.proofs.lemmas.Cmp.{on_total, then_total, int_cmp_total, nat_cmp_total, nat_list_cmp_total}
 use Rattle.std.proofs.lemmas.Int.{ints}
-use Rattle.std.proofs.lemmas.List.Elements.{AllZip-get_or, length_all_zip, All-same}
+use Rattle.std.proofs.lemmas.List.Elements.{AllZip-get_or, length_all_zip}
 use Rattle.std.proofs.lemmas.List.Sorted.{All-permutation}
-use Rattle.jet_items.specs.Bag.{SameBag}
 use Rattle.jet_items.specs.Grid.{IsMultiple, IsEndFor, in_window}
 use Rattle.jet_items.specs.Rows.{Window, Inflow, IsAccOf, IsRowOf, HasRow, AreRows, members, first_value, row_cmp}
 use Rattle.jet_items.specs.Values.{AccValue, EventValue, RowValue}
@@ -17,7 +16,7 @@ use Rattle.jet_items.proofs.Bags.{SameBag-from_permutation, SameBag-filter, Same
 use Rattle.jet_laws.specs.RowLaws.{AreApart, RowsAreOne, IsReordered, RowsStayByOrder}
 use Rattle.jet_laws.proofs.Accumulated.{acc_is_one, acc-SameBag, some_value}
 use Rattle.jet_laws.proofs.Listed.{Stands, stands_at, stands-Contains, any_default, same_sorted}
-use mathlib.Core.Logic.{◌⊎◌, inl, inr}
+use mathlib.Core.Logic.{inl, inr}
 
 pub row_cmp_total : IsTotalOrder row_cmp
 row_cmp_total =
@@ -45,6 +44,7 @@ taken w x xs end key h =
   where
     is_below : (a b : ℤ) → int_lt a b ≡ true → a <ℤ b
     is_below a b h = grind (arith, ints)
+
     from_start : (size e ts : ℤ) → int_le (e -ℤ size) ts ≡ true → e ≤ℤ (ts +ℤ size)
     from_start size e ts h = let le : (e -ℤ size) ≤ℤ ts = start size e ts h in omega (arith, ints)
       where
@@ -84,10 +84,10 @@ same_parts v u e f k l a b p q r s = cc
 same_row : (r s : RowValue) → r.vertex ≡ s.vertex → r.end ≡ s.end → r.key ≡ s.key → r.acc ≡ s.acc → r ≡ s
 same_row r s = same_parts r.vertex s.vertex r.end s.end r.key s.key r.acc s.acc
 
-abbrev IsRowAmong : List Inflow → RowValue → Type 0
+abbrev pub IsRowAmong : List Inflow → RowValue → Type 0
 IsRowAmong entered r = Any (λ (p : Inflow). IsRowOf p.window p.events r) entered
 
-abbrev HasEnds : List RowValue → Window → EventValue → Type 0
+abbrev pub HasEnds : List RowValue → Window → EventValue → Type 0
 HasEnds rows w x = (end : ℤ) → IsEndFor w.size w.slide x.ts end → HasRow rows w end x.key
 
 -- a row of one list is in the other
@@ -97,7 +97,7 @@ found entered other apart are r (i, p, i_low, p_is, row) =
     let at : Contains p.events m.event = stands-Contains p.events m.event m.stands in
     let ends : All (HasEnds other p.window) p.events = subst (λ (q : Inflow). All (HasEnds other q.window) q.events) p_is (are.complete i p i_low) in
     let has : HasRow other p.window r.end m.event.key =
-        subst (HasEnds other p.window) at.2 (ends at.0 m.event at.1) r.end (record { multiple = row.multiple; above = m.above; within = m.within }) in
+    subst (HasEnds other p.window) at.2 (ends at.0 m.event at.1) r.end (record { multiple = row.multiple; above = m.above; within = m.within }) in
     twin (has.0) (has.1) (has.2) (has.3) (has.4.0) (has.4.1) (has.4.2 ∙ m.keyed)
   where
     again : (p : Inflow) (row : IsRowOf p.window p.events r) (q : Inflow) (s : RowValue) → IsRowOf q.window q.events s → p ≡ q → s.end ≡ r.end → s.key ≡ r.key → r.acc ≡ s.acc
@@ -106,6 +106,7 @@ found entered other apart are r (i, p, i_low, p_is, row) =
         (subst (λ (k : List ℕ). IsAccOf (map first_value (members p.window.size r.end k p.events)) s.acc) key
         (subst (λ (e : ℤ). IsAccOf (map first_value (members p.window.size e s.key p.events)) s.acc) end
         (subst (λ (w : Inflow). IsAccOf (map first_value (members w.window.size s.end s.key w.events)) s.acc) (sym same) row'.acc)))
+
     twin : (j : ℕ) (s : RowValue) → j < length other → slice_index_or other j s ≡ s → s.vertex ≡ p.window.vertex → s.end ≡ r.end → s.key ≡ r.key → Stands r other
     twin j s j_low s_is vertex end key =
         let among : IsRowAmong entered s = subst (IsRowAmong entered) s_is (are.each j s j_low) in

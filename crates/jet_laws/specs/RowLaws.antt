@@ -1,5 +1,5 @@
 -- That windows have one list of rows.
-use Rattle.std.specs.Prelude.{◌≡◌, ◌≢◌, ℤ, pos, ◌≤ℤ◌, List, All, AllPairs, IsPermutation}
+use Rattle.std.specs.Prelude.{◌≡◌, ◌≢◌, pos, ◌≤ℤ◌, List, All, AllPairs, IsPermutation}
 use Rattle.std.specs.List.{AllZip}
 use Rattle.jet_items.specs.Rows.{Inflow, AreRows}
 use Rattle.jet_items.specs.Values.{RowValue}
@@ -21,3 +21,7 @@ IsReordered p q = (p.window ≡ q.window) × IsPermutation p.events q.events
 abbrev pub RowsStayByOrder : Type 0
 RowsStayByOrder = (entered other : List Inflow) (rows : List RowValue) → AllZip IsReordered entered other
     → AreRows entered rows → AreRows other rows
+
+-- windows that slide by one or more have rows
+abbrev pub RowsExist : Type 0
+RowsExist = (entered : List Inflow) → All (λ p. pos 1 ≤ℤ p.window.slide) entered → (rows : List RowValue) × AreRows entered rows

@@ -10,4 +10,4 @@ mod rows;
 
 pub use accs::{acc_is_one, acc_stays_by_order};
 pub use marks::none_is_behind;
-pub use rows::{rows_are_one, rows_stay_by_order};
+pub use rows::{rows_are_one, rows_exist, rows_stay_by_order};

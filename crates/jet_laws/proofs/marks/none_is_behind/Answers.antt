@@ -1,4 +1,4 @@
-use Rattle.jet_laws.proofs.InTimeProof.{none_is_behind}
+use Rattle.jet_laws.proofs.InTime.{none_is_behind}
 use Rattle.jet_laws.proofs.marks.none_is_behind.Goals as goal
 
 pub returns : goal.returns

@@ -1,16 +1,14 @@
 -- Within the lag no event is behind.
-use Rattle.std.proofs.Common.{◌≡◌, ℕ, ◌<◌, ℤ, pos, ◌-ℤ◌, ◌≤ℤ◌, ◌<ℤ◌, List, [], ◌∷◌, Bool, true, false, cond, refl, arith, length, rules}
+use Rattle.std.proofs.Common.{◌≡◌, ℤ, pos, ◌-ℤ◌, ◌≤ℤ◌, List, [], ◌∷◌, Bool, true, false, cond, refl, arith, rules}
 use Rattle.std.proofs.lemmas.Int.{ints}
 use Rattle.std.proofs.lemmas.List.Elements.{All-head, All-tail}
-use Rattle.std.specs.Prelude.{All, int_lt, fold, slice_index_or}
-use Rattle.std.specs.List.{reduce}
+use Rattle.std.specs.Prelude.{All, int_lt, fold}
 use Rattle.std.specs.Int.{int_max}
 use Rattle.std.specs.Option.{option_map_or}
 use Rattle.jet_items.specs.Grid.{floor_to, IsFloor}
-use Rattle.jet_items.specs.Marks.{times_before, is_behind, mark_of, mark_at}
-use Rattle.jet_items.specs.Values.{EventValue}
+use Rattle.jet_items.specs.Marks.{mark_of}
 use Rattle.jet_items.proofs.GridLemmas.{floor_is}
-use Rattle.jet_laws.specs.InTime.{IsInTime, NoneIsBehind}
+use Rattle.jet_laws.specs.InTime.{NoneIsBehind}
 
 abbrev Below : ℤ → ℤ → ℤ → Type 0
 Below lag ts t = (t -ℤ lag) ≤ℤ ts
