@@ -1,0 +1,103 @@
+-- The answers of the top call, from the end of its run.
+use Rattle.std.proofs.Common.{◌≡◌, ℕ, List, [], ◌∷◌, ◌++◌, length, map, filter, Bool, true, false, cond, Option, Some, None, Result, Ok, Err, refl, ap, sym, ◌∙◌, subst, append-nil, All, OnOk, inl, inr, ◌<◌, ◌≤◌, ◌^◌, arith, pos}
+use Rattle.std.specs.Prelude.{IfErr, IfSome, IsSomeAnd, ◌⊎◌, Any, MatchResult, ◌==◌}
+use Rattle.std.specs.List.Sorted.{IsPermutation}
+use Rattle.std.specs.List.{AllZip}
+use Rattle.std.proofs.lemmas.List.Elements.{All-head, All-tail, All-cons, All-nil}
+use Rattle.std.proofs.lemmas.List.Sorted.{All-permutation}
+use Rattle.jet_items.specs.Rows.{Window, Inflow}
+use Rattle.jet_items.specs.Values.{EventValue, LateValue}
+use Rattle.jet_lines.specs.Files.{first_bad_line, most_lines}
+use Rattle.jet_lines.specs.Readings.{event_at}
+use Rattle.jet_lines.specs.declared.fault.LineFault.{LineFault}
+use Rattle.jet_file.specs.Causes.{Rose}
+use Rattle.jet_file.specs.Headline.{late_at, Counted, Headline}
+use Rattle.jet_file.specs.Outside.{Told, Goes}
+use Rattle.jet_file.specs.Text.{late_text}
+use Rattle.jet_file.specs.declared.outside.Out.TheVariants.{Notes}
+use Rattle.jet_file.proofs.GoesLemmas.{goes_weaker}
+use Rattle.jet_cli.specs.Answers.{HasGoodFile, OrNoMemory}
+use Rattle.jet_cli.specs.Base.{base_window, base_events, base_inflow, base_behind}
+use Rattle.jet_cli.specs.Done.{IsDone, IsQuiet}
+use Rattle.jet_cli.specs.Ended.{status_of}
+use Rattle.jet_cli.specs.LineStops.{IsFirstBadLine, RunStops}
+use Rattle.jet_cli.specs.Stopping.{CauseOfStop}
+use Rattle.jet_cli.specs.Words.{WindowCommand}
+use Rattle.jet_cli.specs.declared.status.Status.{Status}
+use Rattle.jet_cli.specs.declared.status.Status.TheVariants as status
+use Rattle.jet_cli.specs.declared.status.Stop.{Stop}
+use Rattle.jet_cli.specs.declared.status.Stop.TheVariants.{BadLine, Outside, NoMemory}
+use Rattle.jet_cli.proofs.DoneLemmas.{one_of}
+
+all_front : {X : Type 0} (P : X → Type 0) (xs ys : List X) → All P (xs ++ ys) → All P xs
+all_front P [] ys h = All-nil P
+all_front P (x ∷ xs) ys h = All-cons P x xs (All-head P x (xs ++ ys) h) (all_front P xs ys (All-tail P x (xs ++ ys) h))
+
+-- a late event is one of the window's events
+none_late : (behind : EventValue → Bool) (inflow : Inflow) (late : List LateValue) → inflow.window.vertex ≡ 2 → All (λ l. behind l.event ≡ true) late
+    → All (λ l. Any (λ (e : Inflow). e.window.vertex ≡ l.vertex) (inflow ∷ [])) late → All (λ e. behind e ≡ false) (late_at 2 late) → late ≡ []
+none_late behind inflow [] two late_behind at fresh = refl
+none_late behind inflow (l ∷ late) two late_behind at fresh =
+    let vertex : l.vertex ≡ 2 = sym (one_of (λ (e : Inflow). e.window.vertex ≡ l.vertex) inflow (All-head (λ (l : LateValue). Any (λ (e : Inflow). e.window.vertex ≡ l.vertex) (inflow ∷ [])) l late at)) ∙ two in
+    let here : late_at 2 (l ∷ late) ≡ l.event ∷ late_at 2 late =
+    ap (λ (v : ℕ). map (λ (x : LateValue). x.event) (cond (v == 2) (l ∷ filter (λ (x : LateValue). x.vertex == 2) late) (filter (λ (x : LateValue). x.vertex == 2) late))) vertex in
+    let first : behind l.event ≡ false =
+    All-head (λ (e : EventValue). behind e ≡ false) l.event (late_at 2 late) (subst (λ (es : List EventValue). All (λ (e : EventValue). behind e ≡ false) es) here fresh) in
+    absurd (not_both (behind l.event) (All-head (λ (l : LateValue). behind l.event ≡ true) l late late_behind) first)
+  where
+    not_both : (b : Bool) → b ≡ true → b ≡ false → ⊥
+    not_both b t f = cc
+
+late_of_one : (behind : EventValue → Bool) (inflow : Inflow) (late : List LateValue) (kept : List Inflow) → inflow.window.vertex ≡ 2 → All (λ e. behind e ≡ false) inflow.events
+    → AllZip (λ (e k : Inflow). (k.window ≡ e.window) × IsPermutation e.events (late_at e.window.vertex late ++ k.events)) (inflow ∷ []) kept → All (λ e. behind e ≡ false) (late_at 2 late)
+late_of_one behind inflow late [] two fresh once = absurd once
+late_of_one behind inflow late (k ∷ kept) two fresh once =
+    let all : All (λ (e : EventValue). behind e ≡ false) (late_at inflow.window.vertex late ++ k.events) =
+    All-permutation (λ (e : EventValue). behind e ≡ false) inflow.events (late_at inflow.window.vertex late ++ k.events) once.0.1 fresh in
+    subst (λ (v : ℕ). All (λ (e : EventValue). behind e ≡ false) (late_at v late)) two (all_front (λ (e : EventValue). behind e ≡ false) (late_at inflow.window.vertex late) k.events all)
+
+quiet_is : (c : WindowCommand) (before now : ℕ → Bool) (old new : Told) → IsDone c before now old new → IsQuiet c old new
+quiet_is c before now old new d =
+    subst (λ (o : Option (List ℕ)). IsSomeAnd o (λ (content : List ℕ). All (λ (e : EventValue). base_behind c content e ≡ false) (base_events content) → new.written Notes ≡ old.written Notes)) (sym d.content_is)
+    (λ none.
+    let counted = d.headline.counted in
+    let inflow : Inflow = record { window = base_window c; events = base_events d.content } in
+    let fresh = late_of_one (base_behind c d.content) inflow d.headline.late counted.kept refl none counted.once in
+    let late : d.headline.late ≡ [] = none_late (base_behind c d.content) inflow d.headline.late refl counted.late_behind counted.late_somewhere fresh in
+    d.notes_written ∙ ap (λ (l : List ℕ). old.written Notes ++ l) (d.headline.notes_are ∙ ap (late_text (base_window c ∷ [])) late) ∙ append-nil (old.written Notes))
+
+pub quiet_of : (c : WindowCommand) (before now : ℕ → Bool) (old new : Option Told) (r : Result (Unit {0}) Stop) → OnOk r (Goes (IsDone c before now) old new) → status_of r ≡ status.Done → Goes (IsQuiet c) old new
+quiet_of c before now old new (Ok d) done is = goes_weaker (IsDone c before now) (IsQuiet c) (quiet_is c before now) old new done
+quiet_of c before now old new (Err (BadLine p l w)) done is = absurd (cc is)
+quiet_of c before now old new (Err (Outside call file)) done is = absurd (cc is)
+quiet_of c before now old new (Err NoMemory) done is = absurd (cc is)
+
+same_line : (p q l m : ℕ) (w v : LineFault) → status.BadLine p l w ≡ status.BadLine q m v → (p ≡ q) × (l ≡ m) × (w ≡ v)
+same_line p q l m w v h = (cc h, cc h, cc h)
+
+pub bad_line_of : (c : WindowCommand) (old new : Option Told) (r : Result (Unit {0}) Stop) (part line : ℕ) (why : LineFault) → IfErr r (λ stop. Goes (RunStops c stop) old new) → status_of r ≡ status.BadLine part line why
+    → Goes (λ told _. IsFirstBadLine c part line why told) old new
+bad_line_of c old new (Ok d) part line why stops is = absurd (cc is)
+bad_line_of c old new (Err (BadLine p l w)) part line why stops is =
+    let same = same_line p part l line w why is in
+    goes_weaker (RunStops c (BadLine p l w)) (λ told _. IsFirstBadLine c part line why told)
+    (λ a b h. subst (λ (k : ℕ). IsFirstBadLine c k line why a) same.0 (subst (λ (k : ℕ). IsFirstBadLine c p k why a) same.1 (subst (λ (k : LineFault). IsFirstBadLine c p l k a) same.2 h.1))) old new stops
+bad_line_of c old new (Err (Outside call file)) part line why stops is = absurd (cc is)
+bad_line_of c old new (Err NoMemory) part line why stops is = absurd (cc is)
+
+none_bad : (o : Option (List ℕ)) (n : ℕ) (why : LineFault) → IsSomeAnd o (λ content. first_bad_line (event_at 0) most_lines content ≡ None)
+    → IsSomeAnd o (λ content. first_bad_line (event_at 0) most_lines content ≡ Some (n, why)) → ⊥
+none_bad None n why good bad = good
+none_bad (Some content) n why good bad = cc (sym good ∙ bad)
+
+never_bad : (c : WindowCommand) (old new : Option Told) (p l : ℕ) (w : LineFault) → HasGoodFile c old → Goes (RunStops c (BadLine p l w)) old new → ⊥
+never_bad c None new p l w good h = good
+never_bad c (Some old) None p l w good h = h
+never_bad c (Some old) (Some new) p l w good h = none_bad (old.content c.file) l w good h.1.1
+
+pub complete_of : (c : WindowCommand) (old new : Option Told) (before now : ℕ) (r : Result (Unit {0}) Stop) → IfErr r (λ stop. Goes (RunStops c stop) old new)
+    → MatchResult r (λ _. now ≡ before) (CauseOfStop before now) → HasGoodFile c old → (Rose before now → ⊥) → OrNoMemory (status_of r) status.Done
+complete_of c old new before now (Ok d) stops cause good never = inl refl
+complete_of c old new before now (Err (BadLine p l w)) stops cause good never = absurd (never_bad c old new p l w good stops)
+complete_of c old new before now (Err (Outside call file)) stops cause good never = absurd (never cause)
+complete_of c old new before now (Err NoMemory) stops cause good never = inr refl

@@ -1,0 +1,13 @@
+pub mod AnswerLemmas
+pub mod DoneLemmas
+pub mod FeedLemmas
+pub mod KeptLemmas
+pub mod LoopFacts
+pub mod LoopLemmas
+pub mod MarkLemmas
+pub mod StopLemmas
+pub mod TookLemmas
+pub mod WordLemmas
+pub mod LineLemmas
+pub mod ProgressLemmas
+pub mod RunLemmas

@@ -1,0 +1,134 @@
+-- One more line: what it holds, and what counting that writes.
+use Rattle.std.proofs.Common.{◌≡◌, ℕ, ◌+◌, ◌<◌, Bool, true, false, ◌&&◌, ℤ, pos, List, [], ◌∷◌, ◌++◌, length, refl, ap, sym, ◌∙◌, subst, arith, Option, Some, None, Result, Ok, Err, append-nil, All, OnOk}
+use Rattle.std.specs.Prelude.{nat_le, slice_get, if◌then◌else◌, option_to_list, codes, flat_map, IfErr}
+use Rattle.jet_items.specs.Values.{EventValue, RowValue}
+use Rattle.jet_lines.specs.Readings.{◌>>=◌, fields_at, value_at, key_of, values_at, event_at, line_at}
+use Rattle.jet_lines.specs.declared.fault.LineFault.{LineFault}
+use Rattle.jet_file.specs.Outside.{Told, Goes}
+use Rattle.jet_file.specs.Text.{row_line}
+use Rattle.jet_file.specs.declared.outside.Out.TheVariants.{Rows, Notes}
+use Rattle.jet_policy.specs.MarkerValue.{MarkerValue}
+use Rattle.jet_window.specs.Plain.{PlainValue}
+use Rattle.jet_cli.specs.Counting.{Counts}
+use Rattle.jet_cli.specs.Ending.{Ends}
+use Rattle.jet_cli.specs.Feeding.{Appends, Flushes}
+use Rattle.jet_cli.specs.Finished.{Finished}
+use Rattle.jet_cli.specs.LineStops.{IsBadLineAt, LineStop}
+use Rattle.jet_cli.specs.Progress.{TookLine, base_rows_text, late_of_line}
+use Rattle.jet_cli.specs.Stopping.{StopTold, IsNoBadLine}
+use Rattle.jet_cli.specs.Took.{Took, Prints, late_text_of}
+use Rattle.jet_cli.specs.Words.{WindowCommand}
+use Rattle.jet_cli.specs.declared.counter.WindowCounter.{WindowCounter}
+use Rattle.jet_cli.specs.declared.status.Stop.{Stop}
+use Rattle.jet_cli.specs.declared.status.Stop.TheVariants.{BadLine, Outside, NoMemory}
+use Rattle.jet_file.proofs.GoesLemmas.{goes_weaker, goes_same}
+
+-- what went on without a fault
+went_on : {A B : Type 0} (r : Result A LineFault) (f : A → Result B LineFault) (y : B) → (r >>= f) ≡ Ok y → (x : A) × (r ≡ Ok x) × (f x ≡ Ok y)
+went_on (Ok x) f y h = (x, refl, h)
+went_on (Err e) f y h = absurd (cc h)
+
+same_event : (x y : EventValue) → let r : Result EventValue LineFault = Ok x in r ≡ Ok y → x ≡ y
+same_event x y h = cc h
+
+same_found : (x y : EventValue) → let r : Result (Option EventValue) LineFault = Ok (Some x) in r ≡ Ok (Some y) → x ≡ y
+same_found x y h = cc h
+
+-- the event of fields stands on the line of this number
+fields_line_if : (n : ℕ) (fields : List (List ℕ)) (e : EventValue) (b : Bool) → (nat_le 3 (length fields) && nat_le (length fields) 6) ≡ b → event_at 0 n fields ≡ Ok e → e.line ≡ n
+fields_line_if n fields e true is h =
+    let one = went_on (value_at 0 (slice_get fields 0)) _ e (rw is at h) in
+    let two = went_on (key_of (slice_get fields 1)) _ e one.2 in
+    let three = went_on (values_at fields) _ e two.2 in
+    ap (λ (x : EventValue). x.line) (sym (same_event _ e three.2))
+fields_line_if n fields e false is h = absurd (cc (rw is at h))
+
+-- the event of a line stands on the line of this number
+pub event_line : (n : ℕ) (line : List ℕ) (e : EventValue) → line_at (event_at 0 n) line ≡ Ok (Some e) → e.line ≡ n
+event_line n [] e h = absurd (cc h)
+event_line n (b ∷ bytes) e h =
+    let one = went_on (fields_at (b ∷ bytes)) _ (Some e) h in
+    let two = went_on (event_at 0 n one.0) _ (Some e) one.2 in
+    ap (λ (x : EventValue). x.line) (sym (same_found two.0 e two.2)) ∙ fields_line_if n one.0 two.0 _ refl two.1
+
+-- an event of a line was counted, and the texts of that written
+pub wrote_event : (c : WindowCommand) (events : List EventValue) (e : EventValue) (table : List RowValue) (n : ℕ) (line : List ℕ) (now next : Option Told) (old mid new : WindowCounter)
+    → line_at (event_at 0 n) line ≡ Ok (Some e) → Took c events e table old mid → Prints c old → old.rows.items ≡ [] → old.notes.items ≡ []
+    → mid.size ≡ old.size → mid.name ≡ old.name
+    → new.marker ≡ mid.marker → new.window ≡ mid.window → new.size ≡ mid.size → new.name ≡ mid.name
+    → (r : Result (Unit {0}) Stop) → Goes (Flushes mid.rows.items mid.notes.items r) now next → OnOk r (new.rows.items ≡ []) → OnOk r (new.notes.items ≡ [])
+    → OnOk r (TookLine c events table n line now next new)
+wrote_event c events e table n line now next old mid new read took prints no_rows no_notes s1 n1 m w s2 n2 (Ok done) told rows notes =
+    let rows_are : mid.rows.items ≡ base_rows_text c took.given = took.rows ∙ ap (λ (l : List ℕ). l ++ base_rows_text c took.given) no_rows in
+    let notes_are : mid.notes.items ≡ late_text_of c events e = took.notes ∙ ap (λ (l : List ℕ). l ++ late_text_of c events e) no_notes in
+    record {
+      found = Some e;
+      more = took.given;
+      read = read;
+      counts = subst (λ (x : MarkerValue). Counts c (events ++ e ∷ []) (table ++ took.given) x new.window) (sym m)
+          (subst (λ (x : PlainValue). Counts c (events ++ e ∷ []) (table ++ took.given) mid.marker x) (sym w) took.counts);
+      prints = record { size = s2 ∙ s1 ∙ prints.size; name = n2 ∙ n1 ∙ prints.name };
+      no_rows = rows;
+      no_notes = notes;
+      told = subst (λ (l : List ℕ). Goes (Appends (base_rows_text c took.given) l) now next) notes_are
+          (subst (λ (l : List ℕ). Goes (Appends l mid.notes.items) now next) rows_are told);
+    }
+wrote_event c events e table n line now next old mid new read took prints no_rows no_notes s1 n1 m w s2 n2 (Err stop) told rows notes = tt
+
+-- the writing stopped
+pub write_stops : (rows notes : List ℕ) (n : ℕ) (line : List ℕ) (now next : Option Told) (r : Result (Unit {0}) Stop) → Goes (Flushes rows notes r) now next
+    → IfErr r IsNoBadLine → IfErr r (LineStop n line now next)
+write_stops rows notes n line now next (Ok done) told never = tt
+write_stops rows notes n line now next (Err (BadLine p l why)) told never = absurd never
+write_stops rows notes n line now next (Err (Outside call spot)) told never =
+    (λ name_of. goes_weaker (Flushes {T = Unit {0}} rows notes (Err (Outside call spot))) (StopTold name_of (Outside call spot)) (λ a b h. h name_of) now next told, tt)
+write_stops rows notes n line now next (Err NoMemory) told never =
+    (λ name_of. goes_weaker (Flushes {T = Unit {0}} rows notes (Err NoMemory)) (StopTold name_of NoMemory) (λ a b h. h name_of) now next told, tt)
+
+-- a stop that touched no outside
+pub stands : (n : ℕ) (line : List ℕ) (now : Option Told) (stop : Stop) → ((name_of : ℕ → Option (List ℕ)) (a : Told) → StopTold name_of stop a a) → IsBadLineAt n line stop → LineStop n line now now stop
+stands n line now stop same bad = (λ name_of. goes_same (StopTold name_of stop) (same name_of) now, bad)
+
+same_none : (a : List RowValue) → a ≡ a ++ []
+same_none a = sym (append-nil a)
+
+-- a line that holds nothing
+pub wrote_nothing : (c : WindowCommand) (events : List EventValue) (table : List RowValue) (n : ℕ) (line : List ℕ) (now : Option Told) (w : WindowCounter)
+    → line_at (event_at 0 n) line ≡ Ok None → Counts c events table w.marker w.window → Prints c w → w.rows.items ≡ [] → w.notes.items ≡ []
+    → TookLine c events table n line now now w
+wrote_nothing c events table n line now w read counts prints no_rows no_notes = record {
+  found = None;
+  more = [];
+  read = read;
+  counts = subst (λ (es : List EventValue). Counts c es (table ++ []) w.marker w.window) (sym (append-nil events))
+      (subst (λ (t : List RowValue). Counts c events t w.marker w.window) (same_none table) counts);
+  prints = prints;
+  no_rows = no_rows;
+  no_notes = no_notes;
+  told = goes_same (Appends [] []) (λ a. record { note_lengths = []; row_lengths = []; row_sum = refl; content = refl; place = refl; rows_written = sym (append-nil (a.written Rows)); notes_written = sym (append-nil (a.written Notes)); trace = sym (append-nil (a.trace ++ []) ∙ append-nil a.trace) }) now;
+}
+
+-- what holds where the result is Ok
+pub on_ok_from : {P : Type 0} (r : Result (Unit {0}) Stop) → ((d : Unit {0}) → r ≡ Ok d → P) → OnOk r P
+on_ok_from (Ok d) h = h d refl
+on_ok_from (Err e) h = tt
+
+-- the end of the file: the last rows were written
+pub wrote_end : (c : WindowCommand) (events : List EventValue) (table : List RowValue) (now next : Option Told) (old mid : WindowCounter)
+    → Finished c events table old mid → old.rows.items ≡ [] → old.notes.items ≡ []
+    → (r : Result (Unit {0}) Stop) → Goes (Flushes mid.rows.items mid.notes.items r) now next → OnOk r (Ends c events table now next)
+wrote_end c events table now next old mid f no_rows no_notes (Ok done) told =
+    let rows_are : mid.rows.items ≡ base_rows_text c f.given = f.rows ∙ ap (λ (l : List ℕ). l ++ base_rows_text c f.given) no_rows in
+    record {
+      more = f.given;
+      all = f.all;
+      told = subst (λ (l : List ℕ). Goes (Appends (base_rows_text c f.given) l) now next) (f.notes ∙ no_notes)
+          (subst (λ (l : List ℕ). Goes (Appends l mid.notes.items) now next) rows_are told);
+    }
+wrote_end c events table now next old mid f no_rows no_notes (Err stop) told = tt
+
+pub end_stops : (rows notes : List ℕ) (now next : Option Told) (r : Result (Unit {0}) Stop) → Goes (Flushes rows notes r) now next → IfErr r IsNoBadLine
+    → IfErr r (λ stop. (name_of : ℕ → Option (List ℕ)) → IsNoBadLine stop × Goes (StopTold name_of stop) now next)
+end_stops rows notes now next (Ok done) told never = tt
+end_stops rows notes now next (Err stop) told never =
+    λ name_of. (never, goes_weaker (Flushes {T = Unit {0}} rows notes (Err stop)) (StopTold name_of stop) (λ a b h. h name_of) now next told)

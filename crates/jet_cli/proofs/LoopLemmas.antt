@@ -1,0 +1,171 @@
+-- The steps of the loop over a file's lines.
+use Rattle.std.proofs.Common.{◌≡◌, ℕ, ◌+◌, ◌-◌, ◌*◌, ◌<◌, ◌≤◌, List, [], ◌∷◌, ◌++◌, length, Bool, true, false, cond, Option, Some, None, Result, Ok, Err, refl, ap, sym, ◌∙◌, subst, arith, append-nil, append_assoc, length-append, All, inl, inr, OnOk, ℤ, pos}
+use Rattle.std.specs.Prelude.{IfErr, ◌⊎◌, MatchResult, codes}
+use Rattle.std.proofs.lemmas.Grind.{flat_map-append}
+use Rattle.jet_items.specs.Rows.{AreRows}
+use Rattle.jet_items.specs.Values.{EventValue, RowValue}
+use Rattle.jet_lines.specs.Cutting.{MayCome, NextIs}
+use Rattle.jet_lines.specs.Files.{events_in, most_lines}
+use Rattle.jet_lines.specs.Lines.{lines_of}
+use Rattle.jet_lines.specs.LinesValue.{LinesValue}
+use Rattle.jet_lines.proofs.CutLemmas.{strip_len}
+use Rattle.jet_lines.specs.declared.cut.Cut.TheVariants as cut
+use Rattle.jet_lines.specs.declared.fault.LineFault.{LineFault}
+use Rattle.jet_file.specs.Text.{row_line}
+use Rattle.jet_file.specs.Outside.{Told, Goes, OpensFile, AddsNumber, LacksFile}
+use Rattle.jet_file.proofs.GoesLemmas.{goes_same, goes_then, goes_weaker}
+use Rattle.jet_cli.specs.Base.{base_window}
+use Rattle.jet_cli.specs.Counting.{Counts, kept_among, late_among}
+use Rattle.jet_cli.specs.Done.{IsDone}
+use Rattle.jet_cli.specs.Ending.{Ends}
+use Rattle.jet_cli.specs.Feeding.{PutsPiece, TakesPiece, Appends}
+use Rattle.jet_cli.specs.LineStops.{LineStop, IsBadIn, IsBadLineAt, RunStops, StopsFrom}
+use Rattle.jet_cli.specs.Progress.{HasRun, Progress, TookLine, base_rows_text, base_late_text}
+use Rattle.jet_cli.specs.Stopping.{StopTold, IsForOutside, IsNoBadLine, CauseOfStop, Outcome, OpenOutcome}
+use Rattle.jet_cli.specs.Took.{Prints}
+use Rattle.jet_cli.specs.Words.{WindowCommand}
+use Rattle.jet_cli.specs.declared.counter.WindowCounter.{WindowCounter}
+use Rattle.jet_cli.specs.declared.status.Stop.{Stop}
+use Rattle.jet_cli.specs.declared.status.Stop.TheVariants.{BadLine, Outside, NoMemory}
+use Rattle.jet_cli.proofs.DoneLemmas.{done_is}
+use Rattle.jet_cli.proofs.ProgressLemmas.{progress_line, progress_more}
+use Rattle.jet_cli.proofs.RunLemmas.{goes_writes}
+use Rattle.jet_cli.proofs.StopLemmas.{goes_run_stops, bad_cut, bad_read}
+
+-- one line more
+pub took_line : (c : WindowCommand) (file : ℕ) (start now next : Option Told) (lines lines' : LinesValue) (w w' : WindowCounter) (n : ℕ) (line : List ℕ)
+    → Progress c file start now lines w → NextIs lines (cut.Line n) lines' → line ≡ lines'.line
+    → ((c' : WindowCommand) (events : List EventValue) (table : List RowValue) → Counts c' events table w.marker w.window → Prints c' w → All (λ e. e.line < n) events
+    → w.rows.items ≡ [] → w.notes.items ≡ [] → TookLine c' events table n line now next w')
+    → Progress c file start next lines' w'
+took_line c file start now next lines lines' w w' n line p next_is same took =
+    let number : n ≡ length p.given + 1 = next_is.0 ∙ ap (λ (k : ℕ). k + 1) p.number in
+    let before : All (λ (e : EventValue). e.line < n) (events_in most_lines 0 p.given) =
+    subst (λ (k : ℕ). All (λ (e : EventValue). e.line < k) (events_in most_lines 0 p.given)) (sym number) p.before in
+    let t : TookLine c (events_in most_lines 0 p.given) p.table n line now next w' = took c (events_in most_lines 0 p.given) p.table p.counts p.prints before p.no_rows p.no_notes in
+    progress_line c file start now next lines lines' w w' n p next_is
+    (subst (λ (l : List ℕ). TookLine c (events_in most_lines 0 p.given) p.table n l now next w') same t)
+
+-- one piece more
+pub took_piece : (c : WindowCommand) (file : ℕ) (start now next : Option Told) (lines lines1 lines' : LinesValue) (w : WindowCounter)
+    → Progress c file start now lines w → NextIs lines cut.More lines1 → PutsPiece lines1 lines' → Goes (TakesPiece file lines1 lines') now next → Progress c file start next lines' w
+took_piece c file start now next lines lines1 lines' w p more puts told =
+    let same : lines1 ≡ lines = more.3 in
+    let live : lines1.ended ≡ false = ap (λ (v : LinesValue). v.ended) same ∙ more.0 in
+    progress_more c file start now next lines1 lines' w (subst (λ (v : LinesValue). Progress c file start now v w) (sym same) p) live puts told
+
+-- the measure
+abbrev flag : Bool → ℕ
+flag b = cond b 0 1
+
+abbrev pub left : LinesValue → ℕ
+left v = (v.most - v.number) * 5002 + (5000 - length v.rest) + cond v.ended 0 1
+
+step_piece : (lines lines' : LinesValue) → lines.ended ≡ false → length lines.rest ≤ 513 → PutsPiece lines lines' → left lines' < left lines
+step_piece lines lines' live short (inl (piece, some, is)) =
+    let rest : length lines'.rest ≡ length lines.rest + length piece = ap (λ (v : LinesValue). length v.rest) is ∙ length-append lines.rest piece in
+    let most : lines'.most ≡ lines.most = ap (λ (v : LinesValue). v.most) is in
+    let number : lines'.number ≡ lines.number = ap (λ (v : LinesValue). v.number) is in
+    let ended : flag lines'.ended ≡ 1 = ap flag (ap (λ (v : LinesValue). v.ended) is ∙ live) in
+    let old : flag lines.ended ≡ 1 = ap flag live in
+    let whole : (lines'.most - lines'.number) * 5002 ≡ (lines.most - lines.number) * 5002 = ap (λ (v : LinesValue). (v.most - v.number) * 5002) is in
+    omega (arith, rest, whole, ended, old, short, some)
+step_piece lines lines' live short (inr is) =
+    let rest : length lines'.rest ≡ length lines.rest = ap (λ (v : LinesValue). length v.rest) is in
+    let ended : flag lines'.ended ≡ 0 = ap flag (ap (λ (v : LinesValue). v.ended) is) in
+    let old : flag lines.ended ≡ 1 = ap flag live in
+    let whole : (lines'.most - lines'.number) * 5002 ≡ (lines.most - lines.number) * 5002 = ap (λ (v : LinesValue). (v.most - v.number) * 5002) is in
+    omega (arith, rest, whole, ended, old)
+
+pub less_left : (lines lines1 lines' : LinesValue) → NextIs lines cut.More lines1 → PutsPiece lines1 lines' → left lines' < left lines
+less_left lines lines1 lines' more puts =
+    let same : lines1 ≡ lines = more.3 in
+    let short : length lines.rest ≤ 513 = omega (arith, (strip_len lines.rest).1, more.1.1) in
+    subst (λ (v : LinesValue). left lines' < left v) same
+    (step_piece lines1 lines' (ap (λ (v : LinesValue). v.ended) same ∙ more.0) (subst (λ (v : LinesValue). length v.rest ≤ 513) (sym same) short) puts)
+
+-- the run stops at a line that the cutter refused
+pub stops_at_cut : (c : WindowCommand) (file : ℕ) (old start now : Option Told) (lines lines' : LinesValue) (w : WindowCounter) (n : ℕ) (why : LineFault)
+    → Progress c file start now lines w → NextIs lines (cut.Bad n why) lines' → Goes (OpensFile c.file file) old start → Goes (RunStops c (BadLine 0 n why)) old now
+stops_at_cut c file old start now lines lines' w n why p bad opens =
+    goes_run_stops c file p.bytes lines.ended (base_rows_text c p.table) (base_late_text (late_among c (events_in most_lines 0 p.given))) (BadLine 0 n why) old start now now
+    (bad_cut c file start now lines w p n 0 why lines' refl bad) opens p.told (goes_same (StopsFrom file (BadLine 0 n why)) (λ a name_of is. tt) now)
+
+-- the run stops in reading or counting a line
+pub stops_at_line : (c : WindowCommand) (file : ℕ) (old start now next : Option Told) (lines lines' : LinesValue) (w : WindowCounter) (n : ℕ) (line : List ℕ) (stop : Stop)
+    → Progress c file start now lines w → NextIs lines (cut.Line n) lines' → line ≡ lines'.line → LineStop n line now next stop → Goes (OpensFile c.file file) old start → Goes (RunStops c stop) old next
+stops_at_line c file old start now next lines lines' w n line stop p next_is same h opens =
+    goes_run_stops c file p.bytes lines.ended (base_rows_text c p.table) (base_late_text (late_among c (events_in most_lines 0 p.given))) stop old start now next
+    (bad_read c file start now lines w p n lines' stop next_is (subst (λ (l : List ℕ). IsBadLineAt n l stop) same h.1)) opens p.told (all_names file stop now next h.0)
+  where
+    all_names : (file : ℕ) (stop : Stop) (now next : Option Told) → ((name_of : ℕ → Option (List ℕ)) → Goes (StopTold name_of stop) now next) → Goes (StopsFrom file stop) now next
+    all_names file stop None next h = tt
+    all_names file stop (Some a) None h = h (λ k. None)
+    all_names file stop (Some a) (Some b) h = λ name_of is. h name_of
+
+none_bad : (stop : Stop) → IsNoBadLine stop → (content : List ℕ) → IsBadIn content stop
+none_bad (BadLine part line why) h content = absurd h
+none_bad (Outside call spot) h content = tt
+none_bad NoMemory h content = tt
+
+-- the run stops for another cause
+pub stops_else : (c : WindowCommand) (file : ℕ) (old start now next : Option Told) (lines : LinesValue) (w : WindowCounter) (stop : Stop)
+    → Progress c file start now lines w → IsNoBadLine stop → Goes (StopsFrom file stop) now next → Goes (OpensFile c.file file) old start → Goes (RunStops c stop) old next
+stops_else c file old start now next lines w stop p never told opens =
+    goes_run_stops c file p.bytes lines.ended (base_rows_text c p.table) (base_late_text (late_among c (events_in most_lines 0 p.given))) stop old start now next
+    (λ content more is may. none_bad stop never content) opens p.told told
+
+pub stops_at_end : (c : WindowCommand) (file : ℕ) (old start now next : Option Told) (lines : LinesValue) (w : WindowCounter) (r : Result (Unit {0}) Stop)
+    → Progress c file start now lines w → Goes (OpensFile c.file file) old start
+    → IfErr r (λ stop. (name_of : ℕ → Option (List ℕ)) → IsNoBadLine stop × Goes (StopTold name_of stop) now next) → IfErr r (λ stop. Goes (RunStops c stop) old next)
+stops_at_end c file old start now next lines w (Ok d) p opens h = tt
+stops_at_end c file old start now next lines w (Err stop) p opens h =
+    stops_else c file old start now next lines w stop p (h (λ k. None)).0 (all_names file stop now next (λ name_of. (h name_of).1)) opens
+  where
+    all_names : (file : ℕ) (stop : Stop) (now next : Option Told) → ((name_of : ℕ → Option (List ℕ)) → Goes (StopTold name_of stop) now next) → Goes (StopsFrom file stop) now next
+    all_names file stop None next h = tt
+    all_names file stop (Some a) None h = h (λ k. None)
+    all_names file stop (Some a) (Some b) h = λ name_of is. h name_of
+
+-- the run is done
+goes_done : (c : WindowCommand) (file : ℕ) (before after : ℕ → Bool) (old start now next : Option Told) (lines lines' : LinesValue) (w : WindowCounter)
+    → (p : Progress c file start now lines w) → NextIs lines cut.End lines' → Goes (OpensFile c.file file) old start → AddsNumber file before after
+    → (e : Ends c (events_in most_lines 0 p.given) p.table now next) → Goes (IsDone c before after) old next
+goes_done c file before after old start now next lines lines' w p end opens adds e =
+    let events : List EventValue = events_in most_lines 0 p.given in
+    let run : Goes (HasRun file p.bytes lines.ended (base_rows_text c p.table ++ base_rows_text c e.more) (base_late_text (late_among c events) ++ [])) start next =
+    goes_writes file p.bytes lines.ended (base_rows_text c p.table) (base_late_text (late_among c events)) (base_rows_text c e.more) [] start now next p.told e.told in
+    let run2 : Goes (HasRun file p.bytes true (base_rows_text c p.table ++ base_rows_text c e.more) (base_late_text (late_among c events))) start next =
+    subst (λ (l : List ℕ). Goes (HasRun file p.bytes true (base_rows_text c p.table ++ base_rows_text c e.more) l) start next) (append-nil (base_late_text (late_among c events)))
+    (subst (λ (b : Bool). Goes (HasRun file p.bytes b (base_rows_text c p.table ++ base_rows_text c e.more) (base_late_text (late_among c events) ++ [])) start next) end.0 run) in
+    let rows : base_rows_text c p.table ++ base_rows_text c e.more ≡ base_rows_text c (p.table ++ e.more) = sym (flat_map-append (row_line (codes "w") (pos c.size)) p.table e.more) in
+    goes_then (OpensFile c.file file) (HasRun file p.bytes true (base_rows_text c p.table ++ base_rows_text c e.more) (base_late_text (late_among c events))) (IsDone c before after)
+    (λ a b d o r. done_is c file before after a b d p.bytes (base_rows_text c p.table ++ base_rows_text c e.more) p.given (p.table ++ e.more) o adds r rows
+    (λ more may. p.cut more (λ is. may refl) ∙ ap (λ (l : List ℕ). p.given ++ lines_of (l ++ more)) end.1) p.good e.all) old start next opens run2
+
+pub done_at_end : (c : WindowCommand) (file : ℕ) (before after : ℕ → Bool) (old start now next : Option Told) (lines lines' : LinesValue) (w : WindowCounter) (r : Result (Unit {0}) Stop)
+    → Progress c file start now lines w → NextIs lines cut.End lines' → Goes (OpensFile c.file file) old start → AddsNumber file before after
+    → OnOk r ((c' : WindowCommand) (events : List EventValue) (table : List RowValue) → Counts c' events table w.marker w.window → Prints c' w → w.rows.items ≡ [] → w.notes.items ≡ [] → Ends c' events table now next)
+    → OnOk r (Goes (IsDone c before after) old next)
+done_at_end c file before after old start now next lines lines' w (Ok d) p end opens adds ends =
+    goes_done c file before after old start now next lines lines' w p end opens adds (ends c (events_in most_lines 0 p.given) p.table p.counts p.prints p.no_rows p.no_notes)
+done_at_end c file before after old start now next lines lines' w (Err stop) p end opens adds ends = tt
+
+-- ---- faults of the whole run
+stays_caused : {T : Type 0} (before now next : ℕ) (r : Result T Stop) → now ≡ before → MatchResult r (λ _. next ≡ now) (CauseOfStop now next) → MatchResult r (λ _. next ≡ before) (CauseOfStop before next)
+stays_caused before now next (Ok x) same h = h ∙ same
+stays_caused before now next (Err stop) same h = subst (λ (k : ℕ). CauseOfStop k next stop) same h
+
+pub outcome_of : {S T : Type 0} (opened : S → ℕ → Bool) (steady : S → Bool) (faults : S → ℕ) (old start now next : S) (r : Result T Stop)
+    → steady start ≡ steady old → faults start ≡ faults old → steady now ≡ steady start → faults now ≡ faults start → Outcome opened steady faults now next r → OpenOutcome steady faults old next r
+outcome_of opened steady faults old start now next r s1 f1 s2 f2 o =
+    let same : faults now ≡ faults old = f2 ∙ f1 in
+    record {
+      steady_same = o.steady_same ∙ s2 ∙ s1;
+      later = subst (λ (k : ℕ). k ≤ faults next) same o.later;
+      cause = stays_caused (faults old) (faults now) (faults next) r same o.cause;
+    }
+
+pub works_on : {T : Type 0} (r : Result T Stop) (name : List ℕ) (told : Option Told) → IfErr r (λ stop. IsForOutside stop → ⊥) → IfErr r (λ stop. IsForOutside stop → LacksFile name told)
+works_on (Ok x) name told h = tt
+works_on (Err stop) name told h = λ is. absurd (h is)

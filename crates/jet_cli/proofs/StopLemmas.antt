@@ -1,0 +1,95 @@
+-- Why a run over a file stops, said of the whole run.
+use Rattle.std.proofs.Common.{◌≡◌, ℕ, ◌+◌, ◌<◌, ◌≤◌, List, [], ◌∷◌, ◌++◌, length, Bool, true, false, Option, Some, None, Result, Err, refl, ap, sym, ◌∙◌, subst, arith, append-nil, inl, inr}
+use Rattle.std.specs.Prelude.{◌⊎◌, IsSomeAnd}
+use Rattle.jet_lines.specs.Cutting.{MayCome, BeginsWith, HasLine, HasLongLine, NextIs}
+use Rattle.jet_lines.specs.Files.{are_good, first_bad_line, most_lines}
+use Rattle.jet_lines.specs.Lines.{lines_of}
+use Rattle.jet_lines.specs.LinesValue.{LinesValue}
+use Rattle.jet_lines.specs.Readings.{event_at, line_at}
+use Rattle.jet_lines.specs.declared.cut.Cut.TheVariants as cut
+use Rattle.jet_lines.specs.declared.fault.LineFault.{LineFault}
+use Rattle.jet_lines.specs.declared.fault.LineFault.TheVariants as fault
+use Rattle.jet_lines.proofs.FileLemmas.{bad_next, numbered_fits, numbered_over, long_line}
+use Rattle.jet_file.specs.Outside.{Told, Place, Entry, Goes, OpensFile, rest_of}
+use Rattle.jet_file.proofs.GoesLemmas.{goes_then}
+use Rattle.jet_file.proofs.ReadLemmas.{opened_rest}
+use Rattle.jet_cli.specs.Base.{base_part}
+use Rattle.jet_cli.specs.LineStops.{IsBadIn, IsBadLineAt, IsBadOf, RunStops, StopsFrom}
+use Rattle.jet_cli.specs.Progress.{HasRun, Progress}
+use Rattle.jet_cli.specs.Stopping.{StopTold}
+use Rattle.jet_cli.specs.Words.{WindowCommand}
+use Rattle.jet_cli.specs.declared.counter.WindowCounter.{WindowCounter}
+use Rattle.jet_cli.specs.declared.status.Stop.{Stop}
+use Rattle.jet_cli.specs.declared.status.Stop.TheVariants.{BadLine, Outside, NoMemory}
+use Rattle.jet_cli.proofs.DoneLemmas.{some_of}
+use Rattle.jet_cli.proofs.FeedLemmas.{stop_later}
+
+bad_of : (c : WindowCommand) (content : List ℕ) (told : Told) (stop : Stop) → told.content c.file ≡ Some content → IsBadIn content stop → IsBadOf c told stop
+bad_of c content told (BadLine part n why) is h =
+    (h.0, subst (λ (o : Option (List ℕ)). IsSomeAnd o (λ (bytes : List ℕ). first_bad_line (event_at 0) most_lines bytes ≡ Some (n, why))) (sym is) h.1)
+bad_of c content told (Outside call spot) is h = tt
+bad_of c content told NoMemory is h = tt
+
+run_stops : (c : WindowCommand) (file : ℕ) (bytes : List ℕ) (ended : Bool) (rows notes : List ℕ) (stop : Stop) (old start now next : Told)
+    → ((content more : List ℕ) → content ≡ bytes ++ more → MayCome ended more → IsBadIn content stop)
+    → OpensFile c.file file old start → HasRun file bytes ended rows notes start now → StopsFrom file stop now next → RunStops c stop old next
+run_stops c file bytes ended rows notes stop old start now next bad opens run stops =
+    let name : (now.place file).name ≡ c.file = run.name ∙ ap (λ (p : Place). p.name) opens.place in
+    let one : StopTold (base_part c) stop now next = stops (base_part c) (ap Some (sym name)) in
+    let two : StopTold (base_part c) stop start next = stop_later (base_part c) stop run.calls start now next run.trace one in
+    let found = some_of (old.content c.file) opens.there in (
+      stop_later (base_part c) stop _ old start next opens.trace two,
+      bad_of c found.0 old stop found.1 (bad found.0 (rest_of now file) (sym (opened_rest c.file found.0 file old start found.1 opens) ∙ run.rest) run.end),
+    )
+
+pub goes_run_stops : (c : WindowCommand) (file : ℕ) (bytes : List ℕ) (ended : Bool) (rows notes : List ℕ) (stop : Stop) (old start now next : Option Told)
+    → ((content more : List ℕ) → content ≡ bytes ++ more → MayCome ended more → IsBadIn content stop)
+    → Goes (OpensFile c.file file) old start → Goes (HasRun file bytes ended rows notes) start now → Goes (StopsFrom file stop) now next → Goes (RunStops c stop) old next
+goes_run_stops c file bytes ended rows notes stop None start now next bad o r s = tt
+goes_run_stops c file bytes ended rows notes stop (Some old) None now next bad o r s = absurd o
+goes_run_stops c file bytes ended rows notes stop (Some old) (Some start) None next bad o r s = absurd r
+goes_run_stops c file bytes ended rows notes stop (Some old) (Some start) (Some now) None bad o r s = absurd s
+goes_run_stops c file bytes ended rows notes stop (Some old) (Some start) (Some now) (Some next) bad o r s = run_stops c file bytes ended rows notes stop old start now next bad o r s
+
+-- ---- which line is the first bad one
+module _ (c : WindowCommand) (file : ℕ) (start now : Option Told) (lines : LinesValue) (w : WindowCounter) (p : Progress c file start now lines w) where
+  bad_at : (content more : List ℕ) (line : List ℕ) (others : List (List ℕ)) (f : LineFault) (part n : ℕ) → content ≡ p.bytes ++ more → MayCome lines.ended more
+      → lines_of (lines.rest ++ more) ≡ line ∷ others → part ≡ 0 → n ≡ lines.number + 1
+      → ((length p.given < most_lines) × (line_at (event_at 0 (length p.given + 1)) line ≡ Err f)) ⊎ ((most_lines ≤ length p.given) × (f ≡ fault.TooMany))
+      → IsBadIn content (BadLine part n f)
+  bad_at content more line others f part n is may next part_is n_is how =
+      let parts : lines_of content ≡ p.given ++ line ∷ others = ap lines_of is ∙ p.cut more may ∙ ap (λ (l : List (List ℕ)). p.given ++ l) next in
+      let number : n ≡ length p.given + 1 = n_is ∙ ap (λ (k : ℕ). k + 1) p.number in (
+        part_is,
+        elim how [
+          | inl h ↦ (bad_next (event_at 0) most_lines content p.given line others f p.good parts (numbered_fits (event_at 0) most_lines (length p.given) line h.0 ∙ h.1)).0 ∙ ap (λ (k : ℕ). Some (k, f)) (sym number)
+          | inr h ↦ (bad_next (event_at 0) most_lines content p.given line others f p.good parts (numbered_over (event_at 0) most_lines (length p.given) line h.0 ∙ ap Err (sym h.1))).0 ∙ ap (λ (k : ℕ). Some (k, f)) (sym number)
+        ],
+      )
+
+  -- a line that the cutter refused
+  pub bad_cut : (n part : ℕ) (f : LineFault) (lines' : LinesValue) → part ≡ 0 → NextIs lines (cut.Bad n f) lines' → (content more : List ℕ) → content ≡ p.bytes ++ more → MayCome lines.ended more → IsBadIn content (BadLine part n f)
+  bad_cut n part fault.TooLong lines' part_is h content more is may =
+      let found = h.2 more may in
+      let room : length p.given < most_lines = omega (arith, h.0, h.1, p.most, p.number) in
+      bad_at content more found.0 found.1 fault.TooLong part n is may found.2 part_is h.0 (inl (room, long_line (event_at 0 (length p.given + 1)) found.0 found.3))
+  bad_cut n part fault.TooMany lines' part_is h content more is may =
+      let found = h.2 more may in
+      let full : most_lines ≤ length p.given = omega (arith, h.0, h.1, p.most, p.number) in
+      bad_at content more found.0 found.1 fault.TooMany part n is may found.2 part_is h.0 (inr (full, refl))
+  bad_cut n part (fault.BadByte at) lines' part_is h content more is may = absurd h
+  bad_cut n part fault.Quote lines' part_is h content more is may = absurd h
+  bad_cut n part fault.Fields lines' part_is h content more is may = absurd h
+  bad_cut n part (fault.Number i) lines' part_is h content more is may = absurd h
+  bad_cut n part (fault.Key f) lines' part_is h content more is may = absurd h
+  bad_cut n part fault.KeyFull lines' part_is h content more is may = absurd h
+
+  -- a line that was read and refused
+  pub bad_read : (n : ℕ) (lines' : LinesValue) (stop : Stop) → NextIs lines (cut.Line n) lines' → IsBadLineAt n lines'.line stop → (content more : List ℕ) → content ≡ p.bytes ++ more → MayCome lines.ended more → IsBadIn content stop
+  bad_read n lines' (BadLine part k f) next h content more is may =
+      let number : n ≡ length p.given + 1 = next.0 ∙ ap (λ (j : ℕ). j + 1) p.number in
+      let room : length p.given < most_lines = omega (arith, next.1, p.most, number) in
+      bad_at content more lines'.line (lines_of (lines'.rest ++ more)) f part k is may (next.3 more may) h.0 (h.1 ∙ next.0)
+      (inl (room, ap (λ (j : ℕ). line_at (event_at 0 j) lines'.line) (sym number) ∙ h.2))
+  bad_read n lines' (Outside call spot) next h content more is may = tt
+  bad_read n lines' NoMemory next h content more is may = tt

@@ -1,0 +1,15 @@
+use Rattle.std.proofs.Common.{◌≡◌, ℕ, true, sym, ◌∙◌, subst, rules, Option, ◌<◌, ◌^◌}
+use Rattle.std.specs.Prelude.{IfSome}
+use Rattle.jet_cli.specs.Words.{is_digits, digits_word}
+use Rattle.jet_cli.proofs.WordLemmas.{parsed, small_word}
+use Rattle.jet_cli.proofs.words.number_of.Goals as goal
+use Rattle.jet_cli.proofs.words.number_of.Goals.{After-ok}
+
+number : (c : After-ok) → c.ok.result ≡ digits_word 16 c.args.word.now
+number c = c.ok.ensures.value ∙ parsed c.args.word.now c.parse.result (search rules) c.parse.ensures.value.0
+
+pub returns-then-is_digits-clause-number : goal.returns-then-is_digits-clause-number
+returns-then-is_digits-clause-number c = number c
+
+pub returns-then-is_digits-clause-small : goal.returns-then-is_digits-clause-small
+returns-then-is_digits-clause-small c = subst (λ (o : Option ℕ). IfSome o (λ n. n < 10 ^ 16)) (sym (number c)) (small_word c.args.word.now (search rules))

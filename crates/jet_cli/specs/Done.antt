@@ -1,0 +1,30 @@
+-- What `Done` says to `window`.
+use Rattle.std.specs.Prelude.{◌≡◌, ℕ, Bool, false, pos, List, ◌++◌, All, Some, None, IsSomeAnd}
+use Rattle.jet_items.specs.Values.{EventValue}
+use Rattle.jet_lines.specs.Files.{first_bad_line, most_lines}
+use Rattle.jet_lines.specs.Readings.{event_at}
+use Rattle.jet_file.specs.Headline.{Headline, IsReadWhole}
+use Rattle.jet_file.specs.Outside.{Told}
+use Rattle.jet_file.specs.declared.outside.Out.TheVariants.{Rows, Notes}
+use Rattle.jet_cli.specs.Base.{base_events, base_inflow, base_behind}
+use Rattle.jet_cli.specs.Words.{WindowCommand}
+
+-- what Done to `window` says, where the outside tells its content
+pub record IsDone (c : WindowCommand) (before now : ℕ → Bool) (old new : Told) : Type 0 where
+  pub content : List ℕ
+  pub rows : List ℕ
+  pub notes : List ℕ
+  pub content_is : old.content c.file ≡ Some content
+  -- the file was opened by this call and read to its end, and none of its lines is bad
+  pub read : IsReadWhole c.file content before now new
+  pub good : first_bad_line (event_at 0) most_lines content ≡ None
+  -- what this call wrote
+  pub rows_written : new.written Rows ≡ old.written Rows ++ rows
+  pub notes_written : new.written Notes ≡ old.written Notes ++ notes
+  pub headline : Headline (base_inflow c content) (base_behind c content) rows notes
+  -- an event is late exactly where it is behind
+  pub exact : All (λ k. All (λ e. base_behind c content e ≡ false) k.events) headline.counted.kept
+
+-- where no event of the file is behind, no late line is written
+abbrev pub IsQuiet : WindowCommand → Told → Told → Type 0
+IsQuiet c old new = IsSomeAnd (old.content c.file) (λ content. All (λ e. base_behind c content e ≡ false) (base_events content) → new.written Notes ≡ old.written Notes)

@@ -1,0 +1,17 @@
+pub mod Advance
+pub mod Answers
+pub mod Base
+pub mod Counting
+pub mod Done
+pub mod Ended
+pub mod Ending
+pub mod Feeding
+pub mod Finished
+pub mod LineStops
+pub mod Progress
+pub mod StatusText
+pub mod Stopped
+pub mod Stopping
+pub mod Took
+pub mod Words
+pub mod WordsView

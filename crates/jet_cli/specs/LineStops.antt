@@ -1,0 +1,45 @@
+-- Why the reading and counting of one line stops.
+use Rattle.std.specs.Prelude.{◌≡◌, ℕ, ⊤, List, Option, Some, Result, Err, IsSomeAnd}
+use Rattle.jet_lines.specs.Readings.{event_at, line_at}
+use Rattle.jet_lines.specs.Files.{first_bad_line, most_lines}
+use Rattle.jet_lines.specs.declared.fault.LineFault.{LineFault}
+use Rattle.jet_file.specs.Outside.{Told, Place, Goes}
+use Rattle.jet_cli.specs.Base.{base_part}
+use Rattle.jet_cli.specs.Words.{WindowCommand}
+use Rattle.jet_cli.specs.Stopping.{StopTold}
+use Rattle.jet_cli.specs.declared.status.Stop.{Stop}
+use Rattle.jet_cli.specs.declared.status.Stop.TheVariants.{BadLine, Outside, NoMemory}
+
+-- where the stop is for a bad line, it is this line, which has this fault
+abbrev pub IsBadLineAt : ℕ → List ℕ → Stop → Type 0
+IsBadLineAt number line (BadLine part n why) = (part ≡ 0) × (n ≡ number) × (line_at (event_at 0 number) line ≡ Err why)
+IsBadLineAt number line (Outside call spot) = ⊤
+IsBadLineAt number line NoMemory = ⊤
+
+-- the line has a fault; or a call on the outside failed; or memory ran out
+abbrev pub LineStop : ℕ → List ℕ → Option Told → Option Told → Stop → Type 0
+LineStop number line old new stop = ((name_of : ℕ → Option (List ℕ)) → Goes (StopTold name_of stop) old new) × IsBadLineAt number line stop
+
+-- in this file the stop's line is the first bad one, where it is for a bad line
+abbrev pub IsBadIn : List ℕ → Stop → Type 0
+IsBadIn content (BadLine part n why) = (part ≡ 0) × (first_bad_line (event_at 0) most_lines content ≡ Some (n, why))
+IsBadIn content (Outside call spot) = ⊤
+IsBadIn content NoMemory = ⊤
+
+-- that line is the first bad line of the command's file, which is part 0
+abbrev pub IsFirstBadLine : WindowCommand → ℕ → ℕ → LineFault → Told → Type 0
+IsFirstBadLine c part line why told = (part ≡ 0) × IsSomeAnd (told.content c.file) (λ content. first_bad_line (event_at 0) most_lines content ≡ Some (line, why))
+
+-- where the stop is for a bad line, it is the first bad line of the command's file
+abbrev pub IsBadOf : WindowCommand → Told → Stop → Type 0
+IsBadOf c told (BadLine part n why) = IsFirstBadLine c part n why told
+IsBadOf c told (Outside call spot) = ⊤
+IsBadOf c told NoMemory = ⊤
+
+-- why the run over the file of a command stops
+abbrev pub RunStops : WindowCommand → Stop → Told → Told → Type 0
+RunStops c stop old new = StopTold (base_part c) stop old new × IsBadOf c old stop
+
+-- a step of the run stops, where the file is part 0
+abbrev pub StopsFrom : ℕ → Stop → Told → Told → Type 0
+StopsFrom file stop old new = (name_of : ℕ → Option (List ℕ)) → name_of 0 ≡ Some (old.place file).name → StopTold name_of stop old new
