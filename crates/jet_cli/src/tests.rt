@@ -25,32 +25,27 @@ struct Case {
     notes: &'static str,
 }
 
-// Runs the words over one file `t.csv`.
-fn answer<R: Threads + Sync, L: Ledger>(
+// Runs the words of a case over one file `t.csv`.
+fn check<R: Threads + Abort + Sync, L: Ledger>(
     rt: &R,
     alloc: Global,
-    words: &str,
-    out: &mut MemoryOutside,
+    case: &Case,
     blank: Blank,
-) -> Result<Status, Fail>
+) -> Result<(), Fail>
     requires name { blank.name ≡ L.name }
     requires parts { blank.parts ≡ L.parts }
     requires some { 0 < L.parts }
 {
-    let mut list = Vec::new(alloc);
-    for word in words.split(' ') {
-        list.push(String::from_str(alloc, word)?)?;
+    let mut words = Vec::new(alloc);
+    for word in case.words.split(' ') {
+        words.push(String::from_str(alloc, word)?)?;
     }
-    let mut steps: Steps<L> = Steps::new(blank);
-    Ok(run_jet(rt, alloc, &list, out, &FreeGate, &mut steps))
-}
-
-fn check<R: Threads + Abort + Sync>(rt: &R, alloc: Global, case: &Case) -> Result<(), Fail> {
     let mut fail = Vec::new(alloc);
     fail.push(case.failing)?;
     let mut out = MemoryOutside::new(alloc, fail, 4096)?;
     let _ = out.add(b"t.csv", case.file.to_vec(alloc)?);
-    let status = answer::<R, Brand>(rt, alloc, case.words, &mut out, Blank::new(1))?;
+    let mut steps: Steps<L> = Steps::new(blank);
+    let status = run_jet(rt, alloc, &words, &mut out, &FreeGate, &mut steps);
     assert_eq!(rt; status, case.status);
     assert_eq!(rt; out.written(Out::Rows), case.rows.as_bytes());
     assert_eq!(rt; out.written(Out::Notes), case.notes.as_bytes());
@@ -98,7 +93,7 @@ fn windows_of_one_file(rt: HostRuntime) -> Result<(), Fail> {
         },
     ];
     for case in &cases {
-        check(&rt, rt.alloc(), case)?;
+        check::<HostRuntime, Brand>(&rt, rt.alloc(), case, Blank::new(1))?;
     }
     Ok(())
 }
@@ -150,7 +145,7 @@ fn refusals_and_faults(rt: HostRuntime) -> Result<(), Fail> {
         },
     ];
     for case in &cases {
-        check(&rt, rt.alloc(), case)?;
+        check::<HostRuntime, Brand>(&rt, rt.alloc(), case, Blank::new(1))?;
     }
     Ok(())
 }
@@ -183,7 +178,7 @@ w,1700000010000,1700000070000,sensor-1,1,217,217,217
 ",
         notes: "",
     };
-    check(&rt, rt.alloc(), &case)
+    check::<HostRuntime, Brand>(&rt, rt.alloc(), &case, Blank::new(1))
 }
 
 #[test]
