@@ -1,29 +1,30 @@
 -- The answers of the top call, from the end of its run.
-use Rattle.std.proofs.Common.{◌≡◌, ℕ, List, [], ◌∷◌, ◌++◌, length, map, filter, Bool, true, false, cond, Option, Some, None, Result, Ok, Err, refl, ap, sym, ◌∙◌, subst, append-nil, All, OnOk, inl, inr, ◌<◌, ◌≤◌, ◌^◌, arith, pos}
-use Rattle.std.specs.Prelude.{IfErr, IfSome, IsSomeAnd, ◌⊎◌, Any, MatchResult, ◌==◌}
+use Rattle.jet_laws.proofs.InTime.{none_is_behind}
+use Rattle.jet_laws.specs.InTime.{IsInTime}
+use Rattle.std.proofs.Common.{◌≡◌, ℕ, List, [], ◌∷◌, ◌++◌, map, filter, Bool, true, false, cond, Option, Some, None, Result, Ok, Err, refl, ap, sym, ◌∙◌, subst, append-nil, All, OnOk, inl, inr, pos, ◌≤ℤ◌}
+use Rattle.std.specs.Prelude.{IfErr, IsSomeAnd, Any, MatchResult, ◌==◌}
 use Rattle.std.specs.List.Sorted.{IsPermutation}
 use Rattle.std.specs.List.{AllZip}
 use Rattle.std.proofs.lemmas.List.Elements.{All-head, All-tail, All-cons, All-nil}
 use Rattle.std.proofs.lemmas.List.Sorted.{All-permutation}
-use Rattle.jet_items.specs.Rows.{Window, Inflow}
+use Rattle.jet_items.specs.Rows.{Inflow}
 use Rattle.jet_items.specs.Values.{EventValue, LateValue}
 use Rattle.jet_lines.specs.Files.{first_bad_line, most_lines}
 use Rattle.jet_lines.specs.Readings.{event_at}
 use Rattle.jet_lines.specs.declared.fault.LineFault.{LineFault}
 use Rattle.jet_file.specs.Causes.{Rose}
-use Rattle.jet_file.specs.Headline.{late_at, Counted, Headline}
+use Rattle.jet_file.specs.Headline.{late_at}
 use Rattle.jet_file.specs.Outside.{Told, Goes}
 use Rattle.jet_file.specs.Text.{late_text}
 use Rattle.jet_file.specs.declared.outside.Out.TheVariants.{Notes}
 use Rattle.jet_file.proofs.GoesLemmas.{goes_weaker}
 use Rattle.jet_cli.specs.Answers.{HasGoodFile, OrNoMemory}
-use Rattle.jet_cli.specs.Base.{base_window, base_events, base_inflow, base_behind}
-use Rattle.jet_cli.specs.Done.{IsDone, IsQuiet}
+use Rattle.jet_cli.specs.Base.{base_window, base_events, base_behind}
+use Rattle.jet_cli.specs.Done.{IsDone, IsQuiet, IsQuietInTime}
 use Rattle.jet_cli.specs.Ended.{status_of}
 use Rattle.jet_cli.specs.LineStops.{IsFirstBadLine, RunStops}
 use Rattle.jet_cli.specs.Stopping.{CauseOfStop}
 use Rattle.jet_cli.specs.Words.{WindowCommand}
-use Rattle.jet_cli.specs.declared.status.Status.{Status}
 use Rattle.jet_cli.specs.declared.status.Status.TheVariants as status
 use Rattle.jet_cli.specs.declared.status.Stop.{Stop}
 use Rattle.jet_cli.specs.declared.status.Stop.TheVariants.{BadLine, Outside, NoMemory}
@@ -71,6 +72,21 @@ quiet_of c before now old new (Ok d) done is = goes_weaker (IsDone c before now)
 quiet_of c before now old new (Err (BadLine p l w)) done is = absurd (cc is)
 quiet_of c before now old new (Err (Outside call file)) done is = absurd (cc is)
 quiet_of c before now old new (Err NoMemory) done is = absurd (cc is)
+
+some_weaker : {X : Type 0} (o : Option X) (P Q : X → Type 0) → ((x : X) → P x → Q x) → IsSomeAnd o P → IsSomeAnd o Q
+some_weaker None P Q f h = h
+some_weaker (Some x) P Q f h = f x h
+
+-- events in time leave no late line
+in_time_is : (c : WindowCommand) (old new : Told) → pos 1 ≤ℤ pos c.slide → IsQuiet c old new → IsQuietInTime c old new
+in_time_is c old new step =
+    some_weaker (old.content c.file) (λ content. All (λ e. base_behind c content e ≡ false) (base_events content) → new.written Notes ≡ old.written Notes)
+    (λ content. IsInTime (pos c.lag) (base_events content) → new.written Notes ≡ old.written Notes)
+    (λ content quiet in_time. quiet (none_is_behind (pos c.lag) (pos c.slide) (base_events content) step in_time))
+
+pub in_time_of : (c : WindowCommand) (before now : ℕ → Bool) (old new : Option Told) (r : Result (Unit {0}) Stop) → pos 1 ≤ℤ pos c.slide → OnOk r (Goes (IsDone c before now) old new)
+    → status_of r ≡ status.Done → Goes (IsQuietInTime c) old new
+in_time_of c before now old new r step done is = goes_weaker (IsQuiet c) (IsQuietInTime c) (λ a b. in_time_is c a b step) old new (quiet_of c before now old new r done is)
 
 same_line : (p q l m : ℕ) (w v : LineFault) → status.BadLine p l w ≡ status.BadLine q m v → (p ≡ q) × (l ≡ m) × (w ≡ v)
 same_line p q l m w v h = (cc h, cc h, cc h)

@@ -1,22 +1,23 @@
 -- What a run over a whole file comes to: what Done says, and which line is the first bad one.
-use Rattle.std.proofs.Common.{◌≡◌, ℕ, zero, suc, ◌+◌, ◌<◌, ◌≤◌, List, [], ◌∷◌, ◌++◌, length, map, filter, Bool, true, false, not, cond, eqb, Option, Some, None, refl, ap, sym, ◌∙◌, subst, arith, append-nil, All, ℤ, pos, rules}
-use Rattle.std.specs.Prelude.{flat_map, codes, if◌then◌else◌, IsSome, Any, find, ◌==◌}
+use Rattle.jet_cli.proofs.PaceLemmas.{same_head, same_tail}
+use Rattle.jet_file.specs.Pace.{IsPaced, Source, taken_by, wrote_by, rows_until}
+use Rattle.jet_cli.specs.Pacing.{HasPaced, KeepsPace, base_ahead, base_mark, base_source}
+use Rattle.std.proofs.Common.{◌≡◌, ℕ, zero, suc, ◌+◌, List, [], ◌∷◌, ◌++◌, length, Bool, true, false, not, cond, Option, Some, None, refl, ap, sym, ◌∙◌, subst, arith, append-nil, All, pos, ℤ, ◌-ℤ◌, ◌≤ℤ◌, ◌≤◌, ◌≢◌, append_assoc}
+use Rattle.std.specs.Prelude.{codes, IsSome, Any, ◌==◌, IfSome, IsSomeAnd, int_le}
 use Rattle.std.specs.Option.{option_map_or}
-use Rattle.std.specs.List.{AllZip}
 use Rattle.std.specs.List.Sorted.{IsPermutation}
-use Rattle.std.proofs.lemmas.List.Elements.{All-map, All-weaker, All-head, All-tail, All-cons, All-nil, filter_passes}
+use Rattle.std.proofs.lemmas.List.Elements.{All-map, All-weaker, All-head, All-tail, All-cons, All-nil, filter_passes, All-filter}
 use Rattle.std.proofs.lemmas.List.Sorted.{IsPermutation-filter_both}
 use Rattle.jet_items.specs.Marks.{is_behind}
 use Rattle.jet_items.specs.Rows.{Window, Inflow, IsRowOf, AreRows}
 use Rattle.jet_items.specs.Values.{EventValue, RowValue, LateValue}
-use Rattle.jet_lines.specs.Files.{are_good, events_in, items_in, first_bad_line, most_lines, EndAt}
+use Rattle.jet_lines.specs.Files.{are_good, events_in, most_lines}
 use Rattle.jet_lines.specs.Lines.{lines_of}
-use Rattle.jet_lines.specs.Readings.{event_at, line_at}
-use Rattle.jet_lines.specs.declared.fault.LineFault.{LineFault}
+use Rattle.jet_lines.specs.Readings.{event_at}
 use Rattle.jet_lines.proofs.FileLemmas.{all_good}
-use Rattle.jet_file.specs.Headline.{late_at, Counted, Headline, IsReadWhole}
-use Rattle.jet_file.specs.Outside.{Told, Place, OpensFile, AddsNumber, rest_of}
-use Rattle.jet_file.specs.Text.{row_line, late_line, window_line, rows_text, late_window_line, late_text}
+use Rattle.jet_file.specs.Headline.{late_at, Headline}
+use Rattle.jet_file.specs.Outside.{Told, Place, OpensFile, AddsNumber, Entry, Opened, Read, rest_of}
+use Rattle.jet_file.specs.Text.{row_line, late_line, rows_text, late_text}
 use Rattle.jet_file.specs.declared.outside.Out.TheVariants.{Rows, Notes}
 use Rattle.jet_file.proofs.ReadLemmas.{opened_rest}
 use Rattle.jet_cli.specs.Base.{base_window, base_events, base_inflow, base_behind}
@@ -99,6 +100,59 @@ pub some_of : {X : Type 0} (o : Option X) → IsSome o → (x : X) × (o ≡ Som
 some_of None h = absurd (cc h)
 some_of (Some x) h = (x, refl)
 
+-- the one number that the call added
+same_if : (f file : ℕ) (b : Bool) → (f == file) ≡ b → (f ≢ file → ⊥) → f ≡ file
+same_if f file true is never = grind (arith, is)
+same_if f file false is never = absurd (never (λ e. grind (arith, is, e)))
+
+same_bits : (a b : Bool) → a ≡ b → a ≡ true → b ≡ false → ⊥
+same_bits a b h t f = cc (sym t ∙ h ∙ f)
+
+added_one : (file other : ℕ) (before now : ℕ → Bool) → AddsNumber file before now → before other ≡ false → now other ≡ true → other ≡ file
+added_one file other before now adds fresh added =
+    same_if other file (other == file) refl (λ ne. same_bits (now other) (before other) (adds.others other ne) added fresh)
+
+-- the text of the rows until a time, among all windows
+until_text : (c : WindowCommand) (t : ℤ) (rows : List RowValue) → All (λ r. r.vertex ≡ 2) rows → base_rows_text c (rows_until t rows) ≡ rows_text (base_window c ∷ []) (rows_until t rows)
+until_text c t rows h = row_lines c (rows_until t rows) (All-filter (λ (r : RowValue). int_le r.end t) (λ (r : RowValue). r.vertex ≡ 2) rows h)
+
+-- a read saw what it should, and the opening before all took and wrote nothing
+saw_all : (c : WindowCommand) (table : List RowValue) (mark closed : Option ℤ) (k : ℕ) → All (λ r. r.vertex ≡ 2) table
+    → IfSome mark (λ m. (length (base_rows_text c (rows_until (m -ℤ base_ahead) table)) ≤ k) × IsSomeAnd closed (λ t. m ≤ℤ t))
+    → IfSome mark (λ m. length (rows_text (base_window c ∷ []) (rows_until (m -ℤ base_ahead) table)) ≤ k)
+saw_all c table None closed k at h = tt
+saw_all c table (Some m) closed k at h = subst (λ (l : List ℕ). length l ≤ k) (until_text c (m -ℤ base_ahead) table at) h.0
+
+-- what each read of a source saw, as the pace of a job says it
+abbrev Keeps : WindowCommand → List RowValue → List Entry → Source → Type 0
+Keeps c table calls s = (before after : List Entry) (n : ℕ) → calls ≡ before ++ Read s.file n ∷ after
+    → IfSome (s.mark (taken_by s.file before)) (λ m. length (rows_text (base_window c ∷ []) (rows_until (m -ℤ base_ahead) table)) ≤ wrote_by Rows before)
+
+pub pace_is : (c : WindowCommand) (file : ℕ) (before now : ℕ → Bool) (old start new : Told) (bytes content : List ℕ) (closed : Option ℤ) (table : List RowValue)
+    → OpensFile c.file file old start → AddsNumber file before now → HasPaced c file bytes closed table start new → rest_of start file ≡ content → All (λ r. r.vertex ≡ 2) table
+    → KeepsPace c content table before now old new
+pace_is c file before now old start new bytes content closed table opens adds h whole at = record {
+  calls = Opened c.file file ∷ h.calls;
+  trace = h.trace ∙ ap (λ (l : List Entry). l ++ h.calls) opens.trace ∙ append_assoc old.trace (Opened c.file file ∷ []) h.calls;
+  paced = λ other fresh added named.
+      subst (λ (f : ℕ). IsPaced (base_window c ∷ []) (base_source c content f ∷ []) base_ahead table (Opened c.file file ∷ h.calls)) (sym (added_one file other before now adds fresh added))
+      (record { each = All-cons (Keeps c table (Opened c.file file ∷ h.calls)) (base_source c content file) [] paced (All-nil (Keeps c table (Opened c.file file ∷ h.calls))) });
+}
+  where
+    shown : (front after : List Entry) (n : ℕ) → h.calls ≡ front ++ Read file n ∷ after
+        → IfSome (base_mark c content (taken_by file front)) (λ m. length (rows_text (base_window c ∷ []) (rows_until (m -ℤ base_ahead) table)) ≤ wrote_by Rows front)
+    shown front after n e =
+        saw_all c table (base_mark c content (taken_by file front)) closed (wrote_by Rows front) at
+        (subst (λ (s : List ℕ). IfSome (base_mark c s (taken_by file front)) (λ m. (length (base_rows_text c (rows_until (m -ℤ base_ahead) table)) ≤ wrote_by Rows front) × IsSomeAnd closed (λ t. m ≤ℤ t))) whole (h.each front after n e))
+
+    paced : (front after : List Entry) (n : ℕ) → Opened c.file file ∷ h.calls ≡ front ++ Read file n ∷ after
+        → IfSome (base_mark c content (taken_by file front)) (λ m. length (rows_text (base_window c ∷ []) (rows_until (m -ℤ base_ahead) table)) ≤ wrote_by Rows front)
+    paced [] after n e = absurd (cc e)
+    paced (x ∷ front) after n e =
+        subst (λ (y : Entry). IfSome (base_mark c content (taken_by file (y ∷ front))) (λ m. length (rows_text (base_window c ∷ []) (rows_until (m -ℤ base_ahead) table)) ≤ wrote_by Rows (y ∷ front)))
+        (same_head (Opened c.file file) x h.calls (front ++ Read file n ∷ after) e)
+        (shown front after n (same_tail (Opened c.file file) x h.calls (front ++ Read file n ∷ after) e))
+
 -- ---- what Done says
 pub done_is : (c : WindowCommand) (file : ℕ) (before now : ℕ → Bool) (old start new : Told) (bytes rows : List ℕ) (given : List (List ℕ)) (table : List RowValue)
     → OpensFile c.file file old start → AddsNumber file before now
@@ -107,9 +161,10 @@ pub done_is : (c : WindowCommand) (file : ℕ) (before now : ℕ → Bool) (old 
     → ((more : List ℕ) → (true ≡ true → more ≡ []) → lines_of (bytes ++ more) ≡ given ++ lines_of ([] ++ more))
     → are_good (event_at 0) most_lines given ≡ true
     → AreRows (record { window = base_window c; events = kept_among c (events_in most_lines 0 given) } ∷ []) table
+    → (closed : Option ℤ) → HasPaced c file bytes closed table start new
     → IsDone c before now old new
 unfolding headline_is
-done_is c file before now old start new bytes rows given table opens adds run rows_are cut good all =
+done_is c file before now old start new bytes rows given table opens adds run rows_are cut good all closed paced =
     let found = some_of (old.content c.file) opens.there in
     let content : List ℕ = found.0 in
     let same : bytes ≡ content = sym (append-nil bytes) ∙ ap (λ (s : List ℕ). bytes ++ s) (sym (run.end refl)) ∙ sym run.rest ∙ opened_rest c.file content file old start found.1 opens in
@@ -137,5 +192,7 @@ done_is c file before now old start new bytes rows given table opens adds run ro
       notes_written = run.notes_written ∙ ap (λ w. w Notes ++ base_late_text (late_among c (events_in most_lines 0 given))) opens.written
           ∙ ap (λ (es : List EventValue). old.written Notes ++ base_late_text (late_among c es)) events;
       headline = head;
+      pace = pace_is c file before now old start new bytes content closed table opens adds paced (opened_rest c.file content file old start found.1 opens) (vertices c (kept_among c (base_events content)) table all2);
+      kept = run.content ∙ opens.content;
       exact = All-cons (λ (k : Inflow). All (λ (e : EventValue). base_behind c content e ≡ false) k.events) (record { window = base_window c; events = kept_among c (base_events content) }) [] (kept_not_behind c content) (All-nil _);
     }

@@ -1,6 +1,6 @@
 -- What one read does to a file's lines and to the outside.
-use Rattle.std.proofs.Common.{◌≡◌, ℕ, ◌+◌, ◌≤◌, List, [], ◌∷◌, ◌++◌, length, take, Bool, true, false, Option, Some, None, refl, ap, sym, ◌∙◌, subst, arith, length-take-le, Err, append-nil, append_assoc, map}
-use Rattle.jet_file.specs.Outside.{Told, Place, Entry, Missed, Tried, Opening, Reading, Read, Wrote, Goes, ReadsFile, Stays, rest_of}
+use Rattle.std.proofs.Common.{◌≡◌, ℕ, ◌≤◌, List, [], ◌∷◌, ◌++◌, length, take, true, false, Option, Some, ap, sym, ◌∙◌, subst, length-take-le, Err, append-nil, append_assoc, map}
+use Rattle.jet_file.specs.Outside.{Told, Entry, Missed, Opening, Reading, Read, Wrote, Goes, ReadsFile, Stays}
 use Rattle.jet_file.specs.Reading.{HasRead}
 use Rattle.jet_file.proofs.GoesLemmas.{goes_then, goes_weaker}
 use Rattle.jet_file.proofs.ReadLemmas.{read_more, read_start}
@@ -10,7 +10,7 @@ use Rattle.jet_file.specs.declared.outside.OutFault.TheVariants as fault
 use Rattle.jet_file.specs.Writing.{HasWritten}
 use Rattle.jet_file.specs.declared.outside.Out.TheVariants.{Rows, Notes}
 use Rattle.jet_cli.specs.Feeding.{Appends, Flushes, OpensData, TakesPiece, ReadsPiece, WritesText}
-use Rattle.jet_cli.specs.Stopping.{StopTold, EndsFailed}
+use Rattle.jet_cli.specs.Stopping.{StopTold}
 use Rattle.jet_cli.specs.declared.status.Stop.TheVariants.{BadLine, Outside, NoMemory}
 use Rattle.jet_cli.specs.Stopped.{stop_of}
 use Rattle.jet_cli.specs.declared.status.Call.TheVariants as call

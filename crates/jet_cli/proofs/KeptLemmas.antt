@@ -1,5 +1,5 @@
 -- What one more event changes among the late and the kept events.
-use Rattle.std.proofs.Common.{◌≡◌, ℕ, ◌<◌, ◌≤◌, Bool, true, false, not, cond, ℤ, pos, List, [], ◌∷◌, ◌++◌, map, filter, refl, ap, sym, ◌∙◌, arith, Option, All, append-nil}
+use Rattle.std.proofs.Common.{◌≡◌, ℕ, ◌<◌, ◌≤◌, Bool, true, false, not, cond, ℤ, pos, List, [], ◌∷◌, ◌++◌, map, filter, refl, ap, ◌∙◌, arith, All, append-nil}
 use Rattle.std.specs.Prelude.{nat_lt, int_lt, if◌then◌else◌}
 use Rattle.std.specs.Option.{option_map_or}
 use Rattle.std.proofs.lemmas.List.Elements.{filter-append, All-head, All-tail, All-weaker}

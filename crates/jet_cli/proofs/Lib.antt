@@ -11,3 +11,4 @@ pub mod WordLemmas
 pub mod LineLemmas
 pub mod ProgressLemmas
 pub mod RunLemmas
+pub mod PaceLemmas

@@ -1,23 +1,24 @@
 -- One more line: what it holds, and what counting that writes.
-use Rattle.std.proofs.Common.{◌≡◌, ℕ, ◌+◌, ◌<◌, Bool, true, false, ◌&&◌, ℤ, pos, List, [], ◌∷◌, ◌++◌, length, refl, ap, sym, ◌∙◌, subst, arith, Option, Some, None, Result, Ok, Err, append-nil, All, OnOk}
-use Rattle.std.specs.Prelude.{nat_le, slice_get, if◌then◌else◌, option_to_list, codes, flat_map, IfErr}
+use Rattle.std.proofs.Common.{◌≡◌, ℕ, Bool, true, false, ◌&&◌, List, [], ◌∷◌, ◌++◌, length, refl, ap, sym, ◌∙◌, subst, Option, Some, None, Result, Ok, Err, append-nil, OnOk, ◌≤ℤ◌, ◌<ℤ◌}
+use Rattle.std.specs.Prelude.{nat_le, slice_get, IfErr, IfSome, IsSomeAnd}
 use Rattle.jet_items.specs.Values.{EventValue, RowValue}
 use Rattle.jet_lines.specs.Readings.{◌>>=◌, fields_at, value_at, key_of, values_at, event_at, line_at}
 use Rattle.jet_lines.specs.declared.fault.LineFault.{LineFault}
 use Rattle.jet_file.specs.Outside.{Told, Goes}
-use Rattle.jet_file.specs.Text.{row_line}
 use Rattle.jet_file.specs.declared.outside.Out.TheVariants.{Rows, Notes}
 use Rattle.jet_policy.specs.MarkerValue.{MarkerValue}
 use Rattle.jet_window.specs.Plain.{PlainValue}
-use Rattle.jet_cli.specs.Counting.{Counts}
+use Rattle.jet_cli.specs.Counting.{Counts, mark_after}
 use Rattle.jet_cli.specs.Ending.{Ends}
 use Rattle.jet_cli.specs.Feeding.{Appends, Flushes}
 use Rattle.jet_cli.specs.Finished.{Finished}
 use Rattle.jet_cli.specs.LineStops.{IsBadLineAt, LineStop}
-use Rattle.jet_cli.specs.Progress.{TookLine, base_rows_text, late_of_line}
+use Rattle.jet_cli.specs.Progress.{TookLine, base_rows_text}
 use Rattle.jet_cli.specs.Stopping.{StopTold, IsNoBadLine}
 use Rattle.jet_cli.specs.Took.{Took, Prints, late_text_of}
 use Rattle.jet_cli.specs.Words.{WindowCommand}
+use Rattle.jet_cli.proofs.TookLemmas.{stays}
+use Rattle.std.proofs.lemmas.List.Elements.{All-nil}
 use Rattle.jet_cli.specs.declared.counter.WindowCounter.{WindowCounter}
 use Rattle.jet_cli.specs.declared.status.Stop.{Stop}
 use Rattle.jet_cli.specs.declared.status.Stop.TheVariants.{BadLine, Outside, NoMemory}
@@ -67,6 +68,7 @@ wrote_event c events e table n line now next old mid new read took prints no_row
       read = read;
       counts = subst (λ (x : MarkerValue). Counts c (events ++ e ∷ []) (table ++ took.given) x new.window) (sym m)
           (subst (λ (x : PlainValue). Counts c (events ++ e ∷ []) (table ++ took.given) mid.marker x) (sym w) took.counts);
+      closes = took.closes;
       prints = record { size = s2 ∙ s1 ∙ prints.size; name = n2 ∙ n1 ∙ prints.name };
       no_rows = rows;
       no_notes = notes;
@@ -102,6 +104,10 @@ wrote_nothing c events table n line now w read counts prints no_rows no_notes = 
   read = read;
   counts = subst (λ (es : List EventValue). Counts c es (table ++ []) w.marker w.window) (sym (append-nil events))
       (subst (λ (t : List RowValue). Counts c events t w.marker w.window) (same_none table) counts);
+  closes = record {
+    up = subst (λ (es : List EventValue). IfSome (mark_after c events) (λ t. IsSomeAnd (mark_after c es) (λ u. t ≤ℤ u))) (sym (append-nil events)) (stays (mark_after c events));
+    later = All-nil (λ (r : RowValue). IfSome (mark_after c events) (λ t. t <ℤ r.end));
+  };
   prints = prints;
   no_rows = no_rows;
   no_notes = no_notes;
@@ -122,6 +128,7 @@ wrote_end c events table now next old mid f no_rows no_notes (Ok done) told =
     record {
       more = f.given;
       all = f.all;
+      closes = f.closes;
       told = subst (λ (l : List ℕ). Goes (Appends (base_rows_text c f.given) l) now next) (f.notes ∙ no_notes)
           (subst (λ (l : List ℕ). Goes (Appends l mid.notes.items) now next) rows_are told);
     }

@@ -1,10 +1,12 @@
 -- The steps of the loop over a file's lines.
-use Rattle.std.proofs.Common.{◌≡◌, ℕ, ◌+◌, ◌-◌, ◌*◌, ◌<◌, ◌≤◌, List, [], ◌∷◌, ◌++◌, length, Bool, true, false, cond, Option, Some, None, Result, Ok, Err, refl, ap, sym, ◌∙◌, subst, arith, append-nil, append_assoc, length-append, All, inl, inr, OnOk, ℤ, pos}
-use Rattle.std.specs.Prelude.{IfErr, ◌⊎◌, MatchResult, codes}
+use Rattle.jet_cli.proofs.PaceLemmas.{goes_paced_appends}
+use Rattle.jet_cli.specs.Pacing.{HasPaced}
+use Rattle.std.proofs.Common.{◌≡◌, ℕ, ◌+◌, ◌-◌, ◌*◌, ◌<◌, ◌≤◌, List, [], ◌++◌, length, Bool, true, false, cond, Option, Some, None, Result, Ok, Err, refl, ap, sym, ◌∙◌, subst, arith, append-nil, length-append, All, inl, inr, OnOk, pos, ℤ}
+use Rattle.std.specs.Prelude.{IfErr, MatchResult, codes}
 use Rattle.std.proofs.lemmas.Grind.{flat_map-append}
-use Rattle.jet_items.specs.Rows.{AreRows}
 use Rattle.jet_items.specs.Values.{EventValue, RowValue}
-use Rattle.jet_lines.specs.Cutting.{MayCome, NextIs}
+use Rattle.jet_lines.specs.Cutting.{NextIs}
+use Rattle.jet_lines.specs.Feeds.{NoFeed}
 use Rattle.jet_lines.specs.Files.{events_in, most_lines}
 use Rattle.jet_lines.specs.Lines.{lines_of}
 use Rattle.jet_lines.specs.LinesValue.{LinesValue}
@@ -13,12 +15,11 @@ use Rattle.jet_lines.specs.declared.cut.Cut.TheVariants as cut
 use Rattle.jet_lines.specs.declared.fault.LineFault.{LineFault}
 use Rattle.jet_file.specs.Text.{row_line}
 use Rattle.jet_file.specs.Outside.{Told, Goes, OpensFile, AddsNumber, LacksFile}
-use Rattle.jet_file.proofs.GoesLemmas.{goes_same, goes_then, goes_weaker}
-use Rattle.jet_cli.specs.Base.{base_window}
-use Rattle.jet_cli.specs.Counting.{Counts, kept_among, late_among}
+use Rattle.jet_file.proofs.GoesLemmas.{goes_same, goes_then}
+use Rattle.jet_cli.specs.Counting.{Counts, late_among, mark_after}
 use Rattle.jet_cli.specs.Done.{IsDone}
 use Rattle.jet_cli.specs.Ending.{Ends}
-use Rattle.jet_cli.specs.Feeding.{PutsPiece, TakesPiece, Appends}
+use Rattle.jet_cli.specs.Feeding.{PutsPiece, TakesPiece}
 use Rattle.jet_cli.specs.LineStops.{LineStop, IsBadIn, IsBadLineAt, RunStops, StopsFrom}
 use Rattle.jet_cli.specs.Progress.{HasRun, Progress, TookLine, base_rows_text, base_late_text}
 use Rattle.jet_cli.specs.Stopping.{StopTold, IsForOutside, IsNoBadLine, CauseOfStop, Outcome, OpenOutcome}
@@ -52,7 +53,8 @@ pub took_piece : (c : WindowCommand) (file : ℕ) (start now next : Option Told)
 took_piece c file start now next lines lines1 lines' w p more puts told =
     let same : lines1 ≡ lines = more.3 in
     let live : lines1.ended ≡ false = ap (λ (v : LinesValue). v.ended) same ∙ more.0 in
-    progress_more c file start now next lines1 lines' w (subst (λ (v : LinesValue). Progress c file start now v w) (sym same) p) live puts told
+    progress_more c file start now next lines1 lines' w (subst (λ (v : LinesValue). Progress c file start now v w) (sym same) p) live
+    (subst (λ (v : LinesValue). NoFeed v.rest (length v.rest)) (sym same) more.1.0) puts told
 
 -- the measure
 abbrev flag : Bool → ℕ
@@ -127,6 +129,12 @@ stops_at_end c file old start now next lines w (Err stop) p opens h =
     all_names file stop (Some a) None h = h (λ k. None)
     all_names file stop (Some a) (Some b) h = λ name_of is. h name_of
 
+-- two steps that both go
+goes_both : (step more : Told → Told → Type 0) (now next : Option Told) → Goes step now next → Goes more now next → Goes (λ a b. step a b × more a b) now next
+goes_both step more None next h k = tt
+goes_both step more (Some a) None h k = h
+goes_both step more (Some a) (Some b) h k = (h, k)
+
 -- the run is done
 goes_done : (c : WindowCommand) (file : ℕ) (before after : ℕ → Bool) (old start now next : Option Told) (lines lines' : LinesValue) (w : WindowCounter)
     → (p : Progress c file start now lines w) → NextIs lines cut.End lines' → Goes (OpensFile c.file file) old start → AddsNumber file before after
@@ -139,9 +147,11 @@ goes_done c file before after old start now next lines lines' w p end opens adds
     subst (λ (l : List ℕ). Goes (HasRun file p.bytes true (base_rows_text c p.table ++ base_rows_text c e.more) l) start next) (append-nil (base_late_text (late_among c events)))
     (subst (λ (b : Bool). Goes (HasRun file p.bytes b (base_rows_text c p.table ++ base_rows_text c e.more) (base_late_text (late_among c events) ++ [])) start next) end.0 run) in
     let rows : base_rows_text c p.table ++ base_rows_text c e.more ≡ base_rows_text c (p.table ++ e.more) = sym (flat_map-append (row_line (codes "w") (pos c.size)) p.table e.more) in
-    goes_then (OpensFile c.file file) (HasRun file p.bytes true (base_rows_text c p.table ++ base_rows_text c e.more) (base_late_text (late_among c events))) (IsDone c before after)
-    (λ a b d o r. done_is c file before after a b d p.bytes (base_rows_text c p.table ++ base_rows_text c e.more) p.given (p.table ++ e.more) o adds r rows
-    (λ more may. p.cut more (λ is. may refl) ∙ ap (λ (l : List ℕ). p.given ++ lines_of (l ++ more)) end.1) p.good e.all) old start next opens run2
+    let closed : Option ℤ = mark_after c events in
+    let paced : Goes (HasPaced c file p.bytes closed (p.table ++ e.more)) start next = goes_paced_appends c file p.bytes closed closed p.table e.more [] start now next p.paced e.told e.closes in
+    goes_then (OpensFile c.file file) (λ a b. HasRun file p.bytes true (base_rows_text c p.table ++ base_rows_text c e.more) (base_late_text (late_among c events)) a b × HasPaced c file p.bytes closed (p.table ++ e.more) a b) (IsDone c before after)
+    (λ a b d o r. done_is c file before after a b d p.bytes (base_rows_text c p.table ++ base_rows_text c e.more) p.given (p.table ++ e.more) o adds r.0 rows
+    (λ more may. p.cut more (λ is. may refl) ∙ ap (λ (l : List ℕ). p.given ++ lines_of (l ++ more)) end.1) p.good e.all closed r.1) old start next opens (goes_both (HasRun file p.bytes true (base_rows_text c p.table ++ base_rows_text c e.more) (base_late_text (late_among c events))) (HasPaced c file p.bytes closed (p.table ++ e.more)) start next run2 paced)
 
 pub done_at_end : (c : WindowCommand) (file : ℕ) (before after : ℕ → Bool) (old start now next : Option Told) (lines lines' : LinesValue) (w : WindowCounter) (r : Result (Unit {0}) Stop)
     → Progress c file start now lines w → NextIs lines cut.End lines' → Goes (OpensFile c.file file) old start → AddsNumber file before after

@@ -1,12 +1,12 @@
 -- How the progress over a file's lines goes on: one line more, one piece more.
-use Rattle.std.proofs.Common.{◌≡◌, ℕ, ◌+◌, ◌<◌, ◌≤◌, List, [], ◌∷◌, ◌++◌, length, map, Bool, true, false, Option, Some, None, Result, Ok, refl, ap, sym, ◌∙◌, subst, arith, append-nil, append_assoc, length-append, All, ℤ, pos, inl, inr}
-use Rattle.std.specs.Prelude.{option_to_list, flat_map, codes, if◌then◌else◌, ◌⊎◌}
+use Rattle.std.proofs.Common.{◌≡◌, ℕ, ◌+◌, ◌<◌, ◌≤◌, List, [], ◌∷◌, ◌++◌, length, Bool, true, false, Option, Some, None, Ok, refl, ap, sym, ◌∙◌, subst, arith, append-nil, append_assoc, length-append, All, pos, inl, inr}
+use Rattle.std.specs.Prelude.{option_to_list, flat_map, codes, if◌then◌else◌}
 use Rattle.std.proofs.lemmas.Grind.{flat_map-append}
 use Rattle.std.proofs.lemmas.List.Elements.{All-weaker, All-append, All-nil, All-cons}
 use Rattle.jet_items.specs.Marks.{is_behind}
-use Rattle.jet_items.specs.Values.{EventValue, RowValue}
+use Rattle.jet_items.specs.Values.{EventValue}
 use Rattle.jet_lines.specs.Cutting.{MayCome, NextIs}
-use Rattle.jet_lines.specs.Files.{are_good, events_in, items_in, most_lines, GoOn}
+use Rattle.jet_lines.specs.Files.{events_in, most_lines, GoOn}
 use Rattle.jet_lines.specs.Lines.{lines_of}
 use Rattle.jet_lines.specs.LinesValue.{LinesValue}
 use Rattle.jet_lines.specs.Readings.{event_at, line_at}
@@ -14,11 +14,15 @@ use Rattle.jet_lines.specs.declared.cut.Cut.TheVariants as cut
 use Rattle.jet_lines.proofs.FileLemmas.{good_more, numbered_fits}
 use Rattle.jet_file.specs.Outside.{Told, Goes}
 use Rattle.jet_file.specs.Text.{row_line, late_line}
-use Rattle.jet_cli.specs.Counting.{Counts, late_among}
+use Rattle.jet_cli.specs.Counting.{Counts, late_among, mark_after}
 use Rattle.jet_cli.specs.Feeding.{PutsPiece, TakesPiece}
 use Rattle.jet_cli.specs.Progress.{HasRun, Progress, TookLine, base_rows_text, base_late_text, late_of_line}
 use Rattle.jet_cli.specs.Took.{Prints}
+use Rattle.jet_cli.specs.Pacing.{HasPaced}
 use Rattle.jet_cli.specs.Words.{WindowCommand}
+use Rattle.jet_cli.proofs.PaceLemmas.{goes_paced_starts, goes_paced_takes, goes_paced_appends}
+use Rattle.jet_lines.specs.Feeds.{NoFeed}
+use Rattle.jet_lines.proofs.WholeLemmas.{given_all}
 use Rattle.jet_cli.specs.declared.counter.WindowCounter.{WindowCounter}
 use Rattle.jet_cli.proofs.KeptLemmas.{late_more}
 use Rattle.jet_cli.proofs.LineLemmas.{event_line}
@@ -68,6 +72,8 @@ progress_line c file start now next lines lines' w w' n p next_is t =
     let rows : base_rows_text c (p.table ++ t.more) ≡ base_rows_text c p.table ++ base_rows_text c t.more = flat_map-append (row_line (codes "w") (pos c.size)) p.table t.more in
     let notes : base_late_text (late_among c (events ++ option_to_list t.found)) ≡ base_late_text (late_among c events) ++ late_of_line c events t.found =
     late_text_more c events t.found n lines'.line t.read before in
+    let paced : Goes (HasPaced c file p.bytes (mark_after c (events ++ option_to_list t.found)) (p.table ++ t.more)) start next =
+    goes_paced_appends c file p.bytes (mark_after c events) (mark_after c (events ++ option_to_list t.found)) p.table t.more (late_of_line c events t.found) start now next p.paced t.told t.closes in
     let told : Goes (HasRun file p.bytes lines.ended (base_rows_text c p.table ++ base_rows_text c t.more) (base_late_text (late_among c events) ++ late_of_line c events t.found)) start next =
     goes_writes file p.bytes lines.ended (base_rows_text c p.table) (base_late_text (late_among c events)) (base_rows_text c t.more) (late_of_line c events t.found) start now next p.told t.told in
     record {
@@ -89,15 +95,16 @@ progress_line c file start now next lines lines' w w' n p next_is t =
           (subst (λ (es : List EventValue). Goes (HasRun file p.bytes lines.ended (base_rows_text c (p.table ++ t.more)) (base_late_text (late_among c es))) start next) (sym more.1)
           (subst (λ (l : List ℕ). Goes (HasRun file p.bytes lines.ended (base_rows_text c (p.table ++ t.more)) l) start next) (sym notes)
           (subst (λ (l : List ℕ). Goes (HasRun file p.bytes lines.ended l (base_late_text (late_among c events) ++ late_of_line c events t.found)) start next) (sym rows) told)));
+      paced = subst (λ (es : List EventValue). Goes (HasPaced c file p.bytes (mark_after c es) (p.table ++ t.more)) start next) (sym more.1) paced;
     }
 
 false_is : {P : Type 0} (b : Bool) → b ≡ false → b ≡ true → P
 false_is b f t = absurd (cc)
 
 progress_put : (c : WindowCommand) (file : ℕ) (start now next : Option Told) (lines lines' : LinesValue) (w : WindowCounter) (piece : List ℕ)
-    → (p : Progress c file start now lines w) → lines.ended ≡ false → lines'.rest ≡ lines.rest ++ piece → lines'.most ≡ lines.most → lines'.number ≡ lines.number
+    → (p : Progress c file start now lines w) → lines.ended ≡ false → NoFeed lines.rest (length lines.rest) → lines'.rest ≡ lines.rest ++ piece → lines'.most ≡ lines.most → lines'.number ≡ lines.number
     → Goes (TakesPiece file lines lines') now next → Progress c file start next lines' w
-progress_put c file start now next lines lines' w piece p live rest most number told = record {
+progress_put c file start now next lines lines' w piece p live none rest most number told = record {
   bytes = p.bytes ++ piece;
   given = p.given;
   table = p.table;
@@ -112,16 +119,18 @@ progress_put c file start now next lines lines' w piece p live rest most number 
   prints = p.prints;
   no_rows = p.no_rows;
   no_notes = p.no_notes;
+  paced = goes_paced_takes c file p.bytes piece (mark_after c (events_in most_lines 0 p.given)) p.table lines lines' start now next p.paced told rest
+      (ap (λ (g : List (List ℕ)). mark_after c (events_in most_lines 0 g)) (sym (given_all p.bytes lines.rest p.given (λ more. p.cut more (λ e. false_is lines.ended live e)) none)));
   told = goes_takes file p.bytes (base_rows_text c p.table) (base_late_text (late_among c (events_in most_lines 0 p.given))) lines lines' piece start now next rest p.told told;
 }
 
 -- one piece more, or the end of the file
 pub progress_more : (c : WindowCommand) (file : ℕ) (start now next : Option Told) (lines lines' : LinesValue) (w : WindowCounter)
-    → Progress c file start now lines w → lines.ended ≡ false → PutsPiece lines lines' → Goes (TakesPiece file lines lines') now next → Progress c file start next lines' w
-progress_more c file start now next lines lines' w p live (inl (piece, some, is)) told =
-    progress_put c file start now next lines lines' w piece p live (ap (λ (v : LinesValue). v.rest) is) (ap (λ (v : LinesValue). v.most) is) (ap (λ (v : LinesValue). v.number) is) told
-progress_more c file start now next lines lines' w p live (inr is) told =
-    progress_put c file start now next lines lines' w [] p live (ap (λ (v : LinesValue). v.rest) is ∙ sym (append-nil lines.rest)) (ap (λ (v : LinesValue). v.most) is) (ap (λ (v : LinesValue). v.number) is) told
+    → Progress c file start now lines w → lines.ended ≡ false → NoFeed lines.rest (length lines.rest) → PutsPiece lines lines' → Goes (TakesPiece file lines lines') now next → Progress c file start next lines' w
+progress_more c file start now next lines lines' w p live none (inl (piece, some, is)) told =
+    progress_put c file start now next lines lines' w piece p live none (ap (λ (v : LinesValue). v.rest) is) (ap (λ (v : LinesValue). v.most) is) (ap (λ (v : LinesValue). v.number) is) told
+progress_more c file start now next lines lines' w p live none (inr is) told =
+    progress_put c file start now next lines lines' w [] p live none (ap (λ (v : LinesValue). v.rest) is ∙ sym (append-nil lines.rest)) (ap (λ (v : LinesValue). v.most) is) (ap (λ (v : LinesValue). v.number) is) told
 
 -- nothing is read yet
 pub progress_starts : (c : WindowCommand) (file : ℕ) (start : Option Told) (lines : LinesValue) (w : WindowCounter)
@@ -142,5 +151,6 @@ progress_starts c file start lines w is counts prints no_rows no_notes =
       prints = prints;
       no_rows = no_rows;
       no_notes = no_notes;
+      paced = goes_paced_starts c file start;
       told = subst (λ (b : Bool). Goes (HasRun file [] b [] []) start start) (sym ended) (goes_starts file start);
     }

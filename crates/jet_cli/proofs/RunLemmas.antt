@@ -1,5 +1,5 @@
 -- How the run over a file goes on, step by step, on an outside that tells all.
-use Rattle.std.proofs.Common.{◌≡◌, ℕ, ◌+◌, List, [], ◌∷◌, ◌++◌, length, map, Bool, true, false, Option, Some, None, refl, ap, sym, ◌∙◌, subst, arith, append-nil, append_assoc, length-append}
+use Rattle.std.proofs.Common.{◌≡◌, ℕ, List, [], ◌∷◌, ◌++◌, length, map, Bool, true, false, Option, refl, ap, sym, ◌∙◌, subst, arith, append-nil, append_assoc, length-append}
 use Rattle.jet_file.specs.Outside.{Told, Place, Entry, Read, Wrote, Goes, rest_of, rest_from}
 use Rattle.jet_file.specs.declared.outside.Out.TheVariants.{Rows, Notes}
 use Rattle.jet_file.proofs.GoesLemmas.{goes_then, goes_same}
@@ -39,7 +39,7 @@ run_takes file bytes rows notes before after piece a b c h t is =
       trace = t.trace ∙ ap (λ (l : List Entry). l ++ Read file (length t.piece) ∷ []) h.trace ∙ append_assoc a.trace h.calls (Read file (length t.piece) ∷ []);
     })
 
-cancel : (xs ys zs : List ℕ) → xs ++ ys ≡ xs ++ zs → ys ≡ zs
+pub cancel : (xs ys zs : List ℕ) → xs ++ ys ≡ xs ++ zs → ys ≡ zs
 cancel [] ys zs h = h
 cancel (x ∷ xs) ys zs h = cancel xs ys zs (cc h)
 
@@ -49,7 +49,7 @@ goes_takes file bytes rows notes before after piece old now next is =
     goes_then (HasRun file bytes before.ended rows notes) (TakesPiece file before after) (HasRun file (bytes ++ piece) after.ended rows notes)
     (λ a b c h t. run_takes file bytes rows notes before after piece a b c h t (cancel before.rest t.piece piece (sym t.lines ∙ is))) old now next
 
-rest_stays : (file : ℕ) (a b : Told) → b.content ≡ a.content → b.place ≡ a.place → rest_of b file ≡ rest_of a file
+pub rest_stays : (file : ℕ) (a b : Told) → b.content ≡ a.content → b.place ≡ a.place → rest_of b file ≡ rest_of a file
 rest_stays file a b content place =
     ap (λ (p : ℕ → Place). rest_from (b.content (p file).name) (p file).taken) place ∙ ap (λ told. rest_from (told (a.place file).name) (a.place file).taken) content
 

@@ -1,8 +1,8 @@
 -- Why a run over a file stops, said of the whole run.
-use Rattle.std.proofs.Common.{◌≡◌, ℕ, ◌+◌, ◌<◌, ◌≤◌, List, [], ◌∷◌, ◌++◌, length, Bool, true, false, Option, Some, None, Result, Err, refl, ap, sym, ◌∙◌, subst, arith, append-nil, inl, inr}
+use Rattle.std.proofs.Common.{◌≡◌, ℕ, ◌+◌, ◌<◌, ◌≤◌, List, ◌∷◌, ◌++◌, length, Bool, Option, Some, None, Err, refl, ap, sym, ◌∙◌, subst, arith, inl, inr}
 use Rattle.std.specs.Prelude.{◌⊎◌, IsSomeAnd}
-use Rattle.jet_lines.specs.Cutting.{MayCome, BeginsWith, HasLine, HasLongLine, NextIs}
-use Rattle.jet_lines.specs.Files.{are_good, first_bad_line, most_lines}
+use Rattle.jet_lines.specs.Cutting.{MayCome, NextIs}
+use Rattle.jet_lines.specs.Files.{first_bad_line, most_lines}
 use Rattle.jet_lines.specs.Lines.{lines_of}
 use Rattle.jet_lines.specs.LinesValue.{LinesValue}
 use Rattle.jet_lines.specs.Readings.{event_at, line_at}
@@ -10,8 +10,7 @@ use Rattle.jet_lines.specs.declared.cut.Cut.TheVariants as cut
 use Rattle.jet_lines.specs.declared.fault.LineFault.{LineFault}
 use Rattle.jet_lines.specs.declared.fault.LineFault.TheVariants as fault
 use Rattle.jet_lines.proofs.FileLemmas.{bad_next, numbered_fits, numbered_over, long_line}
-use Rattle.jet_file.specs.Outside.{Told, Place, Entry, Goes, OpensFile, rest_of}
-use Rattle.jet_file.proofs.GoesLemmas.{goes_then}
+use Rattle.jet_file.specs.Outside.{Told, Place, Goes, OpensFile, rest_of}
 use Rattle.jet_file.proofs.ReadLemmas.{opened_rest}
 use Rattle.jet_cli.specs.Base.{base_part}
 use Rattle.jet_cli.specs.LineStops.{IsBadIn, IsBadLineAt, IsBadOf, RunStops, StopsFrom}

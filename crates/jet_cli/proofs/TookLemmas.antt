@@ -1,22 +1,20 @@
 -- One event more, from what sorting it and letting the watermark pass its time do.
-use Rattle.std.proofs.Common.{◌≡◌, ℕ, ◌<◌, Bool, true, false, ℤ, pos, ◌≤ℤ◌, List, [], ◌∷◌, ◌++◌, map, refl, ap, sym, ◌∙◌, subst, arith, Option, Some, None, All, append-nil, append_assoc, inl, inr, rules}
-use Rattle.std.specs.Prelude.{int_lt, if◌then◌else◌, IfSome, codes, flat_map, ◌⊎◌}
-use Rattle.std.specs.List.{reduce}
-use Rattle.std.specs.Int.{int_max}
-use Rattle.std.specs.Option.{option_map_or}
+use Rattle.std.proofs.Common.{◌≡◌, ℕ, Bool, true, false, ℤ, pos, ◌≤ℤ◌, ◌<ℤ◌, List, [], ◌∷◌, ◌++◌, map, refl, ap, sym, ◌∙◌, subst, arith, Option, Some, None, append-nil, inl, inr, rules, All}
+use Rattle.std.specs.Prelude.{if◌then◌else◌, IfSome, codes, flat_map, IsSomeAnd, ◌&&◌, int_lt}
 use Rattle.std.proofs.lemmas.Int.{ints}
 use Rattle.std.proofs.lemmas.List.{map-append}
 use Rattle.jet_items.specs.Marks.{mark_at, mark_of, is_behind}
-use Rattle.jet_items.specs.Rows.{Window}
+use Rattle.std.proofs.lemmas.List.Elements.{All-weaker, All-nil}
+use Rattle.jet_items.specs.Rows.{Window, IsRowOf}
 use Rattle.jet_items.specs.Values.{EventValue, RowValue}
 use Rattle.jet_policy.specs.MarkerValue.{MarkerValue, HasSeen}
 use Rattle.jet_file.specs.Text.{row_line, late_line}
-use Rattle.jet_window.specs.Plain.{PlainValue, HasTaken, RowsBetween, RowsUpTo, window_named}
+use Rattle.jet_window.specs.Plain.{PlainValue, HasTaken, RowsBetween, RowsUpTo, is_between, window_named}
 use Rattle.jet_window.proofs.Between.{closed_stay, follow}
 use Rattle.jet_cli.specs.Advance.{GoesOn}
 use Rattle.jet_cli.specs.Base.{base_window}
-use Rattle.jet_cli.specs.Counting.{kept_among, Counts}
-use Rattle.jet_cli.specs.Took.{mark_in, is_below, late_text_of}
+use Rattle.jet_cli.specs.Counting.{kept_among, mark_after, Counts}
+use Rattle.jet_cli.specs.Took.{mark_in, is_below, late_text_of, ClosesOn}
 use Rattle.jet_cli.specs.Words.{WindowCommand}
 use Rattle.jet_cli.proofs.KeptLemmas.{AreBefore, behind_at, kept_more}
 
@@ -87,6 +85,44 @@ in_step c events table marker window h =
 pub window_is : (c : WindowCommand) (p : PlainValue) → p.vertex ≡ 2 → p.size ≡ pos c.size → p.slide ≡ pos c.slide → window_named p (codes "w") ≡ base_window c
 window_is c p v s d = cc
 
+-- rows between two marks end after the first
+after_is : (after upto : Option ℤ) (end : ℤ) → is_between after upto end ≡ true → IfSome after (λ t. t <ℤ end)
+after_is None upto end h = tt
+after_is (Some t) upto end h = first (int_lt t end) _ refl h
+  where
+    first : (a b : Bool) → int_lt t end ≡ a → (a && b) ≡ true → t <ℤ end
+    first true b is h = grind (arith, ints, rules, is)
+    first false b is h = absurd (cc h)
+
+pub rows_end_after : (w : Window) (after upto : Option ℤ) (events : List EventValue) (given : List RowValue) → RowsBetween w after upto events given
+    → All (λ r. IfSome after (λ t. t <ℤ r.end)) given
+rows_end_after w after upto events given rows =
+    All-weaker (λ (r : RowValue). IsRowOf w events r × (is_between after upto r.end ≡ true)) (λ (r : RowValue). IfSome after (λ t. t <ℤ r.end))
+    (λ r h. after_is after upto r.end h.1) given rows.each
+
+pub stays : (o : Option ℤ) → IfSome o (λ t. IsSomeAnd o (λ u. t ≤ℤ u))
+stays None = tt
+stays (Some t) = omega (arith, ints)
+
+rises : (old : Option ℤ) (t : ℤ) → IfSome old (λ s. s ≤ℤ t) → IfSome old (λ s. IsSomeAnd (Some t) (λ u. s ≤ℤ u))
+rises None t h = tt
+rises (Some s) t h = h
+
+goes_closes : (w : Window) (old new : Option ℤ) (events : List EventValue) (given : List RowValue) → GoesOn w old new events given → ClosesOn old new given
+goes_closes w old new events given (inl (same, none)) = record {
+  up = subst (λ (o : Option ℤ). IfSome old (λ t. IsSomeAnd o (λ u. t ≤ℤ u))) (sym same) (stays old);
+  later = subst (All (λ (r : RowValue). IfSome old (λ t. t <ℤ r.end))) (sym none) (All-nil (λ (r : RowValue). IfSome old (λ t. t <ℤ r.end)));
+}
+goes_closes w old new events given (inr (t, is, later, rows)) = record {
+  up = subst (λ (o : Option ℤ). IfSome old (λ s. IsSomeAnd o (λ u. s ≤ℤ u))) (sym is) (rises old t later);
+  later = rows_end_after w old (Some t) events given rows;
+}
+
+-- sorting an event closes nothing
+sorts_only : (old mid : PlainValue) (e : EventValue) (b : Bool) {T : Type 0} → (b ≡ true → mid ≡ old) → (b ≡ false → (mid ≡ record old { events = old.events ++ e ∷ [] }) × T) → mid.closed ≡ old.closed
+sorts_only old mid e true late kept = ap (λ (p : PlainValue). p.closed) (late refl)
+sorts_only old mid e false late kept = ap (λ (p : PlainValue). p.closed) (kept refl).0
+
 -- all that one event more does to what was counted
 pub counts_more : (c : WindowCommand) (events : List EventValue) (e : EventValue) (table given : List RowValue) (marker next : MarkerValue) (old mid new : PlainValue)
     → Counts c events table marker old → AreBefore e.line events
@@ -98,7 +134,7 @@ pub counts_more : (c : WindowCommand) (events : List EventValue) (e : EventValue
     → new.closed ≡ mark_in next
     → ((name : List ℕ) (all : List EventValue) → HasTaken mid all → GoesOn (window_named mid name) mid.closed new.closed all given)
     → ((all : List EventValue) → HasTaken mid all → HasTaken new all)
-    → Counts c (events ++ e ∷ []) (table ++ given) next new
+    → Counts c (events ++ e ∷ []) (table ++ given) next new × ClosesOn (mark_after c events) (mark_after c (events ++ e ∷ [])) given
 counts_more c events e table given marker next old mid new h before late kept seen lag grain vertex size slide step goes taken =
     let b : Bool = is_behind (pos c.lag) (pos c.slide) events e in
     let same : is_below (mark_in marker) e.ts ≡ b = below_is_behind c events e table marker old h before in
@@ -112,17 +148,23 @@ counts_more c events e table given marker next old mid new h before late kept se
     let goes2 : GoesOn (base_window c) mid.closed new.closed (kept_among c (events ++ e ∷ [])) given =
     subst (λ (w : Window). GoesOn w mid.closed new.closed (kept_among c (events ++ e ∷ [])) given) (window_is c mid s2.vertex s2.size s2.slide)
     (goes (codes "w") (kept_among c (events ++ e ∷ [])) s2.taken) in
-    record {
-      lag = lag ∙ h.lag;
-      grain = grain ∙ h.grain;
-      seen = seen2;
-      vertex = vertex ∙ s2.vertex;
-      size = size ∙ s2.size;
-      slide = slide ∙ s2.slide;
-      closed = step ∙ mark_is (pos c.lag) (pos c.slide) (map (λ x. x.ts) (events ++ e ∷ [])) next (lag ∙ h.lag) (grain ∙ h.grain) seen2;
-      taken = taken (kept_among c (events ++ e ∷ [])) s2.taken;
-      rows = rows_go_on (base_window c) mid.closed new.closed (kept_among c (events ++ e ∷ [])) table given s2.rows goes2;
-    }
+    let closed : mid.closed ≡ mark_after c events = sorts_only old mid e (is_below (mark_in marker) e.ts) late kept ∙ h.closed in
+    let closed2 : new.closed ≡ mark_after c (events ++ e ∷ []) =
+    step ∙ mark_is (pos c.lag) (pos c.slide) (map (λ x. x.ts) (events ++ e ∷ [])) next (lag ∙ h.lag) (grain ∙ h.grain) seen2 in (
+      record {
+        lag = lag ∙ h.lag;
+        grain = grain ∙ h.grain;
+        seen = seen2;
+        vertex = vertex ∙ s2.vertex;
+        size = size ∙ s2.size;
+        slide = slide ∙ s2.slide;
+        closed = closed2;
+        taken = taken (kept_among c (events ++ e ∷ [])) s2.taken;
+        rows = rows_go_on (base_window c) mid.closed new.closed (kept_among c (events ++ e ∷ [])) table given s2.rows goes2;
+      },
+      subst (λ (o : Option ℤ). ClosesOn o (mark_after c (events ++ e ∷ [])) given) closed
+          (subst (λ (o : Option ℤ). ClosesOn mid.closed o given) closed2 (goes_closes (base_window c) mid.closed new.closed (kept_among c (events ++ e ∷ [])) given goes2)),
+    )
 
 -- what sorting an event appended to the notes
 pub notes_more : (c : WindowCommand) (events : List EventValue) (e : EventValue) (old new : List ℕ) (b below : Bool) → below ≡ b → is_behind (pos c.lag) (pos c.slide) events e ≡ b

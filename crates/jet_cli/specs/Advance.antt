@@ -1,5 +1,5 @@
 -- What it does to let the watermark pass a time.
-use Rattle.std.specs.Prelude.{◌≡◌, ◌⊎◌, ℕ, ℤ, List, [], ◌∷◌, ◌++◌, Option, Some, flat_map, IfSome, ◌≤ℤ◌}
+use Rattle.std.specs.Prelude.{◌≡◌, ◌⊎◌, ℕ, ℤ, List, [], ◌++◌, Option, Some, flat_map, IfSome, ◌≤ℤ◌}
 use Rattle.jet_items.specs.Rows.{Window}
 use Rattle.jet_items.specs.Values.{EventValue, RowValue}
 use Rattle.jet_file.specs.Text.{row_line}

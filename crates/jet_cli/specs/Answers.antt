@@ -1,5 +1,5 @@
 -- When each answer of the top call comes.
-use Rattle.std.specs.Prelude.{◌≡◌, ℕ, pos, List, Option, Some, None, ◌⊎◌, ⊤, IsSome, IsSomeAnd}
+use Rattle.std.specs.Prelude.{◌≡◌, pos, Option, Some, None, ◌⊎◌, ⊤, IsSome, IsSomeAnd}
 use Rattle.jet_policy.specs.PolicyCause.{policy_fault}
 use Rattle.jet_policy.specs.declared.policy.PolicyFault.{PolicyFault}
 use Rattle.jet_lines.specs.Files.{first_bad_line, most_lines}
@@ -10,7 +10,7 @@ use Rattle.jet_cli.specs.declared.status.Refusal.{Refusal}
 use Rattle.jet_cli.specs.declared.status.Refusal.TheVariants.{Plan}
 use Rattle.jet_cli.specs.declared.status.PlanFault.TheVariants.{Policy}
 use Rattle.jet_cli.specs.declared.status.Status.{Status}
-use Rattle.jet_cli.specs.declared.status.Status.TheVariants.{Done, Usage, JobRefused, BadLine, OutsideFault, NoMemory}
+use Rattle.jet_cli.specs.declared.status.Status.TheVariants.{Usage, JobRefused, OutsideFault, NoMemory}
 
 -- the sizes are those of the accumulate vertex, which has number 1
 abbrev pub refusal_from : Option PolicyFault → Option Refusal

@@ -1,8 +1,8 @@
 -- The job that `window` runs: one file, and one window over its events.
-use Rattle.std.specs.Prelude.{ℕ, ◌==◌, Bool, not, pos, List, [], ◌∷◌, map, filter, Option, Some, None, codes, if◌then◌else◌}
+use Rattle.std.specs.Prelude.{ℕ, ◌==◌, Bool, pos, List, [], ◌∷◌, Option, Some, None, codes, if◌then◌else◌}
 use Rattle.jet_items.specs.Marks.{is_behind}
 use Rattle.jet_items.specs.Rows.{Window, Inflow}
-use Rattle.jet_items.specs.Values.{EventValue, LateValue}
+use Rattle.jet_items.specs.Values.{EventValue}
 use Rattle.jet_lines.specs.Files.{events_of, most_lines}
 use Rattle.jet_cli.specs.Words.{WindowCommand}
 

@@ -1,5 +1,5 @@
 -- The counting of one window, event by event.
-use Rattle.std.specs.Prelude.{◌≡◌, ℕ, ◌<◌, Bool, not, ℤ, pos, List, [], ◌∷◌, ◌++◌, map, filter, All}
+use Rattle.std.specs.Prelude.{◌≡◌, not, pos, List, map, filter, Option, ℤ}
 use Rattle.jet_items.specs.Marks.{is_behind, mark_of}
 use Rattle.jet_items.specs.Values.{EventValue, RowValue, LateValue}
 use Rattle.jet_policy.specs.MarkerValue.{MarkerValue, HasSeen}
@@ -18,6 +18,10 @@ kept_among c events = filter (λ e. not (is_behind (pos c.lag) (pos c.slide) eve
 abbrev pub as_late : List EventValue → List LateValue
 as_late events = map (λ e. record { vertex = 2; event = e }) events
 
+-- the watermark of events
+abbrev pub mark_after : WindowCommand → List EventValue → Option ℤ
+mark_after c events = mark_of (pos c.lag) (pos c.slide) (map (λ e. e.ts) events)
+
 -- marker and window have had these events, and these rows were given
 pub record Counts (c : WindowCommand) (events : List EventValue) (table : List RowValue) (marker : MarkerValue) (window : PlainValue) : Type 0 where
   pub lag : marker.lag ≡ pos c.lag
@@ -26,6 +30,6 @@ pub record Counts (c : WindowCommand) (events : List EventValue) (table : List R
   pub vertex : window.vertex ≡ 2
   pub size : window.size ≡ pos c.size
   pub slide : window.slide ≡ pos c.slide
-  pub closed : window.closed ≡ mark_of (pos c.lag) (pos c.slide) (map (λ e. e.ts) events)
+  pub closed : window.closed ≡ mark_after c events
   pub taken : HasTaken window (kept_among c events)
   pub rows : RowsUpTo (base_window c) window.closed (kept_among c events) table

@@ -1,6 +1,6 @@
 -- What the steps of a run do on the outside.
-use Rattle.std.specs.Prelude.{◌≡◌, ◌≢◌, ℕ, ◌+◌, ◌<◌, Bool, true, ⊤, List, [], ◌∷◌, ◌++◌, length, map, sum, Option, Some, Result, Ok, Err, ◌⊎◌}
-use Rattle.jet_file.specs.Outside.{Told, Place, Entry, Wrote, Read, OpensFile, AddsNumber, rest_of}
+use Rattle.std.specs.Prelude.{◌≡◌, ℕ, ◌+◌, ◌<◌, Bool, true, List, [], ◌∷◌, ◌++◌, length, map, sum, Option, Some, Result, Ok, Err, ◌⊎◌}
+use Rattle.jet_file.specs.Outside.{Told, Wrote, Read, OpensFile, AddsNumber, rest_of}
 use Rattle.jet_file.specs.Writing.{HasWritten}
 use Rattle.jet_file.specs.declared.outside.Out.{Out}
 use Rattle.jet_file.specs.declared.outside.Out.TheVariants.{Rows, Notes}

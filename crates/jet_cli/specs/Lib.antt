@@ -15,3 +15,4 @@ pub mod Stopping
 pub mod Took
 pub mod Words
 pub mod WordsView
+pub mod Pacing

@@ -1,9 +1,9 @@
 -- Why the reading and counting of one line stops.
-use Rattle.std.specs.Prelude.{◌≡◌, ℕ, ⊤, List, Option, Some, Result, Err, IsSomeAnd}
+use Rattle.std.specs.Prelude.{◌≡◌, ℕ, ⊤, List, Option, Some, Err, IsSomeAnd}
 use Rattle.jet_lines.specs.Readings.{event_at, line_at}
 use Rattle.jet_lines.specs.Files.{first_bad_line, most_lines}
 use Rattle.jet_lines.specs.declared.fault.LineFault.{LineFault}
-use Rattle.jet_file.specs.Outside.{Told, Place, Goes}
+use Rattle.jet_file.specs.Outside.{Told, Goes}
 use Rattle.jet_cli.specs.Base.{base_part}
 use Rattle.jet_cli.specs.Words.{WindowCommand}
 use Rattle.jet_cli.specs.Stopping.{StopTold}

@@ -1,17 +1,18 @@
 -- How far the run over one file has come.
-use Rattle.std.specs.Prelude.{◌≡◌, ℕ, ◌+◌, ◌<◌, Bool, true, pos, List, [], ◌∷◌, ◌++◌, length, All, Option, Some, None, option_to_list, Result, Ok, codes, flat_map}
+use Rattle.std.specs.Prelude.{◌≡◌, ℕ, ◌+◌, ◌<◌, Bool, true, pos, List, [], ◌++◌, length, All, Option, Some, None, option_to_list, Ok, codes, flat_map}
 use Rattle.jet_items.specs.Values.{EventValue, RowValue}
 use Rattle.jet_lines.specs.Cutting.{MayCome}
 use Rattle.jet_lines.specs.Files.{are_good, events_in, most_lines}
 use Rattle.jet_lines.specs.Lines.{lines_of}
 use Rattle.jet_lines.specs.LinesValue.{LinesValue}
 use Rattle.jet_lines.specs.Readings.{event_at, line_at}
-use Rattle.jet_file.specs.Outside.{Told, Place, Entry, Goes, rest_of}
+use Rattle.jet_file.specs.Outside.{Told, Entry, Goes, rest_of}
 use Rattle.jet_file.specs.Text.{row_line, late_line}
 use Rattle.jet_file.specs.declared.outside.Out.TheVariants.{Rows, Notes}
-use Rattle.jet_cli.specs.Counting.{Counts, late_among}
+use Rattle.jet_cli.specs.Counting.{Counts, late_among, mark_after}
 use Rattle.jet_cli.specs.Feeding.{Appends}
-use Rattle.jet_cli.specs.Took.{Prints, late_text_of}
+use Rattle.jet_cli.specs.Pacing.{HasPaced}
+use Rattle.jet_cli.specs.Took.{ClosesOn, Prints, late_text_of}
 use Rattle.jet_cli.specs.Words.{WindowCommand}
 use Rattle.jet_cli.specs.declared.counter.WindowCounter.{WindowCounter}
 
@@ -49,6 +50,7 @@ pub record Progress (c : WindowCommand) (file : ℕ) (start now : Option Told) (
   pub no_rows : w.rows.items ≡ []
   pub no_notes : w.notes.items ≡ []
   pub told : Goes (HasRun file bytes lines.ended (base_rows_text c table) (base_late_text (late_among c (events_in most_lines 0 given)))) start now
+  pub paced : Goes (HasPaced c file bytes (mark_after c (events_in most_lines 0 given)) table) start now
 
 -- the late line of what a line holds, where it holds an event that is behind
 abbrev pub late_of_line : WindowCommand → List EventValue → Option EventValue → List ℕ
@@ -62,6 +64,7 @@ pub record TookLine (c : WindowCommand) (events : List EventValue) (table : List
   pub read : line_at (event_at 0 number) line ≡ Ok found
   pub counts : Counts c (events ++ option_to_list found) (table ++ more) new.marker new.window
   pub prints : Prints c new
+  pub closes : ClosesOn (mark_after c events) (mark_after c (events ++ option_to_list found)) more
   pub no_rows : new.rows.items ≡ []
   pub no_notes : new.notes.items ≡ []
   pub told : Goes (Appends (base_rows_text c more) (late_of_line c events found)) now next

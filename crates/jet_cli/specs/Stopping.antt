@@ -1,12 +1,12 @@
 -- What a stop says of the outside.
-use Rattle.std.specs.Prelude.{◌≡◌, ℕ, ◌≤◌, Bool, true, ⊤, List, [], ◌∷◌, ◌++◌, Option, Some, None, Result, MatchResult, IfErr}
+use Rattle.std.specs.Prelude.{◌≡◌, ℕ, ◌≤◌, Bool, true, ⊤, List, [], ◌∷◌, ◌++◌, Option, Some, Result, MatchResult, IfErr}
 use Rattle.jet_file.specs.Causes.{Rose}
-use Rattle.jet_file.specs.Outside.{Told, Place, Entry, Missed, Tried, Opening, Reading, Writing}
+use Rattle.jet_file.specs.Outside.{Told, Entry, Missed, Tried, Opening, Reading, Writing}
 use Rattle.jet_file.specs.declared.outside.Out.TheVariants as out
 use Rattle.jet_cli.specs.declared.status.Call.{Call}
 use Rattle.jet_cli.specs.declared.status.Call.TheVariants.{Open, Read, Write}
 use Rattle.jet_cli.specs.declared.status.Spot.{Spot}
-use Rattle.jet_cli.specs.declared.status.Spot.TheVariants.{Job, Part, Rows, Notes}
+use Rattle.jet_cli.specs.declared.status.Spot.TheVariants.{Part, Rows, Notes}
 use Rattle.jet_cli.specs.declared.status.Stop.{Stop}
 use Rattle.jet_cli.specs.declared.status.Stop.TheVariants.{BadLine, Outside, NoMemory}
 

@@ -1,5 +1,5 @@
 // The top call.
-ghost use Rattle.std.specs.Prelude.{◌≡◌, ◌<◌, ◌↔◌, ℕ, Some, None, map, string_bytes, IsSomeAnd, IsTrue};
+ghost use Rattle.std.specs.Prelude.{◌≡◌, ◌<◌, ◌≤◌, ◌↔◌, ℕ, Some, None, map, string_bytes, IsSomeAnd, IsTrue};
 ghost use Rattle.jet_file.specs.Causes.{Rose};
 ghost use Rattle.jet_file.specs.Headline.{WritesNothing};
 ghost use Rattle.jet_file.specs.Outside.{Goes};
@@ -7,7 +7,7 @@ ghost use Rattle.jet_lines.specs.declared.fault.LineFault.{LineFault};
 ghost use Rattle.jet_cli.specs.Answers.{refusal_of, OrNoMemory, HasGoodFile, HasFile, IsOutsideFault, IsUsageOrRefused};
 ghost use Rattle.jet_cli.specs.Base.{base_part};
 ghost use Rattle.jet_cli.specs.Ended.{status_of};
-ghost use Rattle.jet_cli.specs.Done.{IsDone, IsQuiet};
+ghost use Rattle.jet_cli.specs.Done.{IsDone, IsQuiet, IsQuietInTime};
 ghost use Rattle.jet_cli.specs.LineStops.{IsFirstBadLine};
 ghost use Rattle.jet_cli.specs.Stopping.{EndsFailed};
 ghost use Rattle.jet_cli.specs.Words.{command_of, WindowCommand};
@@ -31,13 +31,20 @@ pub fn run_jet<R: Threads + Sync, O: Outside, G: Gate + Sync, L: Ledger>(
     words: &[String],
     out: &mut O,
     _gate: &G,
-    _steps: &mut Steps<L>,
+    steps: &mut Steps<L>,
 ) -> Status
     // Done: the rows over all events but those of the late lines, and nothing else.
     ensures done { result ≡ Status.Done → IsSomeAnd (command_of (map string_bytes words.now))
         (λ c. Goes (IsDone c (O.opened out.old) (O.opened out.new)) (O.told out.old) (O.told out.new)) }
     ensures quiet { result ≡ Status.Done → IsSomeAnd (command_of (map string_bytes words.now))
         (λ c. Goes (IsQuiet c) (O.told out.old) (O.told out.new)) }
+    ensures in_time { result ≡ Status.Done → IsSomeAnd (command_of (map string_bytes words.now))
+        (λ c. Goes (IsQuietInTime c) (O.told out.old) (O.told out.new)) }
+
+    // No step is counted yet, and no call undoes a fault or ends the steadiness of the outside.
+    ensures steps { steps.new ≡ steps.old }
+    ensures steady_same { O.steady out.new ≡ O.steady out.old }
+    ensures later { O.faults out.old ≤ O.faults out.new }
 
     // Usage comes exactly where the words are no command.
     ensures usage { result ≡ Status.Usage ↔ (command_of (map string_bytes words.now) ≡ None) }

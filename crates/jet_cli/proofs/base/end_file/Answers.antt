@@ -1,4 +1,4 @@
-use Rattle.std.proofs.Common.{◌≡◌, ℕ, List, [], subst, OnOk, Result}
+use Rattle.std.proofs.Common.{subst, OnOk, Result}
 use Rattle.jet_cli.specs.Ending.{Ends}
 use Rattle.jet_cli.specs.declared.status.Stop.{Stop}
 use Rattle.jet_cli.proofs.LineLemmas.{wrote_end, end_stops, on_ok_from}

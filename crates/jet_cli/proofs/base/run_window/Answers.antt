@@ -1,16 +1,9 @@
-use Rattle.std.proofs.Common.{rules, arith, ◌≡◌, ◌≤◌, ◌∙◌, sym, subst, ap, ℕ, ℤ, pos, List, Option, Ok, Err, Result, to_z, of_z, w64, refl, true, Bool}
+use Rattle.std.proofs.Common.{arith, ◌≡◌, ◌∙◌, sym, subst, ℕ, pos, Option, to_z, w64, refl, Bool}
 use Rattle.std.proofs.lemmas.Result.{err_from_is_err_and}
 use Rattle.std.proofs.lemmas.Int.{ints}
-use Rattle.std.specs.Prelude.{IfErr}
-use Rattle.jet_items.specs.Ranges.{most_time}
-use Rattle.jet_lines.specs.Cutting.{NextIs}
-use Rattle.jet_lines.specs.declared.cut.Cut.{Cut}
-use Rattle.jet_lines.specs.declared.cut.Cut.TheVariants as cut
-use Rattle.jet_file.specs.Outside.{Told, Goes, OpensFile, AddsNumber, LacksFile}
+use Rattle.jet_file.specs.Outside.{Told, AddsNumber}
 use Rattle.jet_cli.specs.Words.{WindowCommand}
 use Rattle.jet_cli.specs.WordsView.{command_in}
-use Rattle.jet_cli.specs.Stopping.{IsForOutside}
-use Rattle.jet_cli.proofs.LoopFacts.{SoFar}
 use Rattle.jet_cli.proofs.LoopLemmas.{took_line, took_piece, less_left, stops_at_cut, stops_at_line, stops_else, stops_at_end, done_at_end, outcome_of, works_on}
 use Rattle.jet_cli.proofs.ProgressLemmas.{progress_starts}
 use Rattle.jet_cli.proofs.base.run_window.Goals as goal

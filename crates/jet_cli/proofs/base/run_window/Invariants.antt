@@ -1,4 +1,4 @@
-use Rattle.std.proofs.Common.{ℕ, ◌+◌, ◌-◌, ◌*◌, length, cond}
+use Rattle.std.proofs.Common.{◌+◌, ◌-◌, ◌*◌, length, cond}
 use Rattle.jet_cli.specs.WordsView.{command_in}
 use Rattle.jet_cli.proofs.LoopFacts.{SoFar}
 use Rattle.jet_cli.proofs.base.run_window.Given as goal

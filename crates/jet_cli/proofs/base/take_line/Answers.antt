@@ -1,4 +1,4 @@
-use Rattle.std.proofs.Common.{◌≡◌, ℕ, ◌<◌, List, [], Some, None, Option, sym, subst, ap, ◌∙◌, OnOk, All, Ok, rules, Result}
+use Rattle.std.proofs.Common.{◌≡◌, ℕ, ◌<◌, Some, sym, subst, OnOk, All, Ok, Result}
 use Rattle.jet_items.specs.Values.{EventValue}
 use Rattle.jet_lines.specs.Readings.{event_at, line_at}
 use Rattle.jet_cli.specs.Progress.{TookLine}

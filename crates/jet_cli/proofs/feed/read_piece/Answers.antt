@@ -1,4 +1,4 @@
-use Rattle.std.proofs.Common.{rules, length, ◌≡◌, sym, ◌∙◌}
+use Rattle.std.proofs.Common.{rules}
 use Rattle.jet_cli.proofs.FeedLemmas.{goes_piece, goes_stops}
 use Rattle.jet_cli.proofs.feed.read_piece.Goals as goal
 

@@ -1,6 +1,6 @@
-use Rattle.std.proofs.Common.{◌≡◌, ℕ, true, sym, ◌∙◌, subst, rules, Option, ◌<◌, ◌^◌}
+use Rattle.std.proofs.Common.{◌≡◌, ℕ, sym, ◌∙◌, subst, rules, Option, ◌<◌, ◌^◌}
 use Rattle.std.specs.Prelude.{IfSome}
-use Rattle.jet_cli.specs.Words.{is_digits, digits_word}
+use Rattle.jet_cli.specs.Words.{digits_word}
 use Rattle.jet_cli.proofs.WordLemmas.{parsed, small_word}
 use Rattle.jet_cli.proofs.words.number_of.Goals as goal
 use Rattle.jet_cli.proofs.words.number_of.Goals.{After-ok}

@@ -1,11 +1,10 @@
-use Rattle.std.proofs.Common.{rules, arith, pos, ◌∷◌, [], to_z, of_z, w64, to_z-of_z, FitsSigned, ◌≡◌, ◌++◌, ℤ, ◌≤ℤ◌, List, Some, None, sym, ◌∙◌, subst, ap, inl, inr, refl}
+use Rattle.std.proofs.Common.{rules, ◌∷◌, [], w64, to_z-of_z, FitsSigned, ◌≡◌, ◌++◌, ℤ, ◌≤ℤ◌, List, Some, sym, ◌∙◌, subst, ap, inr}
 use Rattle.std.specs.Prelude.{IfSome, flat_map, Option}
-use Rattle.jet_items.specs.Marks.{mark_at, mark_of}
-use Rattle.jet_items.specs.Values.{EventValue, RowValue}
+use Rattle.jet_items.specs.Marks.{mark_of}
+use Rattle.jet_items.specs.Values.{RowValue}
 use Rattle.jet_file.specs.Text.{row_line}
 use Rattle.jet_policy.specs.MarkerValue.{HasSeen, IsRaised}
 use Rattle.jet_window.specs.Plain.{PlainValue}
-use Rattle.jet_cli.specs.Advance.{Advanced, GoesOn}
 use Rattle.jet_cli.specs.Took.{mark_in}
 use Rattle.jet_cli.proofs.MarkLemmas.{StepsTo, sees}
 use Rattle.jet_cli.proofs.counter.WindowCounter.advance.Goals as goal
