@@ -87,7 +87,8 @@ impl Conveyor {
 
     /// The number of queues.
     pub fn queues(&self) -> u32
-        ensures { result ≡ length (view self.now).rings }
+        ensures count { result ≡ length (view self.now).rings }
+        ensures one_each { length (view self.now).done ≡ length (view self.now).rings }
     {
         self.queues.len() as u32
     }

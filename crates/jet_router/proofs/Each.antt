@@ -1,12 +1,12 @@
 -- A list of destinations to each of which an item was offered.
-use Rattle.std.proofs.Common.{◌≡◌, ℕ, zero, suc, ◌+◌, ◌<◌, List, [], ◌∷◌, ◌++◌, map, length, get_or, Bool, true, false, refl, ap, ap₂, arith, All}
+use Rattle.std.proofs.Common.{◌≡◌, ℕ, zero, suc, ◌+◌, ◌<◌, ◌≤◌, List, [], ◌∷◌, ◌++◌, map, length, get_or, Bool, true, false, refl, ap, ap₂, arith, All}
 use Rattle.std.proofs.lemmas.Bool.{false≢true}
 use Rattle.std.proofs.lemmas.List.Elements.{All-head, All-tail, All-map, All-cons, All-nil}
 use Rattle.jet_items.specs.declared.item.Item.{Item}
 use Rattle.jet_ring.specs.Ring.{TxView}
 use Rattle.jet_router.specs.Dest.{DestView, served, unserved, settled_by, HasInHand, HandIs, starts}
 use Rattle.jet_router.specs.Router.{settled_if}
-use Rattle.jet_router.proofs.Serving.{sent_of_served, settled_of_served, ring_of_served, full_if_owed, hand_of_served, reach_of_served}
+use Rattle.jet_router.proofs.Serving.{sent_of_served, settled_of_served, ring_of_served, full_if_owed, hand_of_served, reach_of_served, had_of_served, free_of_served}
 
 abbrev pub ends : List DestView → List (TxView Item)
 ends ds = map (λ d. d.tx) ds
@@ -41,6 +41,17 @@ module _ (x : Item) where
 
   pub in_hand_kept : (ds : List DestView) → All (HasInHand x) ds → All (HasInHand x) (map (served x) ds)
   in_hand_kept ds h = All-map (HasInHand x) (served x) ds (λ k d lt. hand_of_served x (get_or ds k d) (h k d lt))
+
+  pub fewer_free : (ds : List DestView) (k : ℕ) → get_or (map (λ t. t.free) (ends (map (served x) ds))) k 0 ≤ get_or (map (λ t. t.free) (ends ds)) k 0
+  fewer_free [] k = omega arith
+  fewer_free (a ∷ ds) zero = free_of_served x a
+  fewer_free (a ∷ ds) (suc k) = fewer_free ds k
+
+  pub had_kept :
+      (ds : List DestView) (k : ℕ) → get_or (map (λ d. d.had) ds) k false ≡ true → get_or (map (λ d. d.had) (map (served x) ds)) k false ≡ true
+  had_kept [] k e = e
+  had_kept (a ∷ ds) zero e = had_of_served x a e
+  had_kept (a ∷ ds) (suc k) e = had_kept ds k e
 
   pub owed_full :
       (ds : List DestView) (k : ℕ) → get_or (map (λ d. d.had) (map (served x) ds)) k true ≡ false → get_or (map (λ t. t.free) (ends ds)) k 0 ≡ 0

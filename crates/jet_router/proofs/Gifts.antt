@@ -1,5 +1,5 @@
 -- What a gift to each destination does.
-use Rattle.std.proofs.Common.{◌≡◌, ◌+◌, List, [], ◌∷◌, ◌++◌, map, length, get_or, true, false, refl, sym, ◌∙◌, ap, ap₂, subst, All as AllOf}
+use Rattle.std.proofs.Common.{◌≡◌, ◌+◌, ◌≤◌, arith, ℕ, Bool, List, [], ◌∷◌, ◌++◌, map, length, get_or, true, false, refl, sym, ◌∙◌, ap, ap₂, subst, All as AllOf}
 use Rattle.std.proofs.lemmas.Bool.{false≢true}
 use Rattle.jet_items.specs.declared.item.Item.{Item}
 use Rattle.jet_ring.specs.Ring.{TxView}
@@ -8,9 +8,9 @@ use Rattle.jet_router.specs.declared.Given.TheVariants.{All, Again}
 use Rattle.jet_router.specs.declared.aim.Aim.TheVariants.{Each}
 use Rattle.jet_router.specs.Aim.{key_of, aim_of}
 use Rattle.jet_router.specs.Dest.{DestView, served, settled_by, HasInHand, starts}
-use Rattle.jet_router.specs.Router.{View, aim, reaches, settled_if, IsInHand, SameRouter}
+use Rattle.jet_router.specs.Router.{View, aim, reaches, frees, settled_if, IsInHand, SameRouter}
 use Rattle.jet_router.specs.Gives.{Gives}
-use Rattle.jet_router.proofs.Each.{ends, ends-starts, in_hand-starts, all_sent, settled_kept, rings_kept, reaches_kept, in_hand_kept, owed_full, each_hand, hand_of_each, some_owed, settled-starts}
+use Rattle.jet_router.proofs.Each.{ends, ends-starts, in_hand-starts, all_sent, settled_kept, rings_kept, reaches_kept, in_hand_kept, owed_full, each_hand, hand_of_each, some_owed, settled-starts, had_kept, fewer_free}
 
 -- b is a, after x was offered to each destination that has not had it
 pub record ServedEach (a b : View) (x : Item) : Type 0 where
@@ -36,6 +36,13 @@ module _ (a b : View) (x : Item) (s : ServedEach a b x) where
       ap (λ (w : List DestView). map (λ (t : TxView Item). length t.sent + t.free) (ends w)) s.dests
       ∙ reaches_kept x (starts a.busy a.dests)
       ∙ ap (map (λ (t : TxView Item). length t.sent + t.free)) (ends-starts a.busy a.dests)
+
+  pub fewer_served : (k : ℕ) → get_or (frees b) k 0 ≤ get_or (frees a) k 0
+  fewer_served k =
+      let after = ap (λ (w : List DestView). get_or (map (λ (t : TxView Item). t.free) (ends w)) k 0) s.dests in
+      let served = fewer_free x (starts a.busy a.dests) k in
+      let before = ap (λ (w : List (TxView Item)). get_or (map (λ (t : TxView Item). t.free) w) k 0) (ends-starts a.busy a.dests) in
+      omega (arith, after, served, before)
 
   -- whatever the answer
   pub gives_each :
@@ -67,6 +74,10 @@ module _ (a b : View) (x : Item) (s : ServedEach a b x) where
           ap₂ (λ r t. aim_of r t (key_of x)) s.route s.table ∙ aimed,
           hand_of_each x b.dests (subst P (sym s.dests) (in_hand_kept x ds held)),
         );
+        kept =
+            λ k busy had.
+            let Q : Bool → Type 0 = λ u. get_or (map (λ (d : DestView). d.had) (starts u a.dests)) k false ≡ true in
+            ap (λ w. get_or (map (λ (d : DestView). d.had) w) k false) s.dests ∙ had_kept x ds k (subst Q (sym busy) had);
         busy = (again refl).0;
         some = some_owed b.dests (again refl).1;
         full =

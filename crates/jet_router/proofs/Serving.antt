@@ -1,5 +1,5 @@
 -- What one offer does to a destination.
-use Rattle.std.proofs.Common.{◌≡◌, ℕ, zero, suc, ◌+◌, ◌-◌, List, [], ◌∷◌, ◌++◌, map, take, length, Bool, true, false, refl, sym, ◌∙◌, ap, arith, subst, All, length-append}
+use Rattle.std.proofs.Common.{◌≡◌, ℕ, zero, suc, ◌+◌, ◌-◌, ◌≤◌, List, [], ◌∷◌, ◌++◌, map, take, length, Bool, true, false, refl, sym, ◌∙◌, ap, arith, subst, All, length-append}
 use Rattle.std.proofs.lemmas.List.{take-append-le, take_all}
 use Rattle.std.proofs.lemmas.Bool.{false≢true}
 use Rattle.std.proofs.lemmas.List.Elements.{All-head, All-tail, All-cons, All-nil}
@@ -54,6 +54,25 @@ module _ (x : Item) where
   reach_unless : (t : TxView Item) (had : Bool) → length (served_unless x t had).tx.sent + (served_unless x t had).tx.free ≡ length t.sent + t.free
   reach_unless t true = refl
   reach_unless t false = reach_if t t.free refl
+
+  free_if : (t : TxView Item) (n : ℕ) → t.free ≡ n → (offered_if x t n).free ≤ t.free
+  free_if t zero e = omega arith
+  free_if t (suc n) e = omega (arith, e)
+
+  free_unless : (t : TxView Item) (had : Bool) → (served_unless x t had).tx.free ≤ t.free
+  free_unless t true = omega arith
+  free_unless t false = free_if t t.free refl
+
+  pub free_of_served : (d : DestView) → (served x d).tx.free ≤ d.tx.free
+  free_of_served d = free_unless d.tx d.had
+
+  -- a destination that has had x has it still
+  had_unless : (t : TxView Item) (had : Bool) → had ≡ true → (served_unless x t had).had ≡ true
+  had_unless t true e = refl
+  had_unless t false e = absurd (false≢true e)
+
+  pub had_of_served : (d : DestView) → d.had ≡ true → (served x d).had ≡ true
+  had_of_served d e = had_unless d.tx d.had e
 
   -- a destination that has had x, once it is served, was sent x after what was settled
   pub sent_of_served : (d : DestView) → HasInHand x d → (served x d).had ≡ true → (served x d).tx.sent ≡ settled_by d.had d.tx.sent ++ x ∷ []

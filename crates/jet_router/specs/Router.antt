@@ -1,5 +1,5 @@
 -- What a contract sees of a router.
-use Rattle.std.specs.Prelude.{◌≡◌, ◌≢◌, ℕ, ◌+◌, ◌-◌, ◌<◌, ◌≤◌, List, [], ◌∷◌, ◌++◌, map, Bool, true, false, get_or, set, length, ◌⊎◌}
+use Rattle.std.specs.Prelude.{◌≡◌, ◌≢◌, ℕ, ◌+◌, ◌-◌, ◌<◌, ◌≤◌, List, [], ◌∷◌, ◌++◌, map, Bool, true, false, get_or, set, length, ◌⊎◌, not, if◌then◌else◌, count_by}
 use Rattle.jet_ring.specs.Ring as ring
 use Rattle.jet_items.specs.declared.item.Item.{Item}
 use Rattle.jet_router.specs.declared.aim.Route.{Route}
@@ -9,7 +9,7 @@ use Rattle.jet_router.specs.declared.router.Router.{Router}
 use Rattle.jet_router.specs.Aim.{key_of, aim_of}
 use Rattle.jet_router.specs.Dest.{DestView, dest_view, settled_by, HandIs, fresh}
 
--- its route, with the table of a partitioned one; its destinations; whether an item is in hand that only some destinations have; and the destination that is tried first
+-- its route, with the table of a partitioned one; its destinations; whether an item is in hand that not each destination has had; and the destination that is tried first
 pub record View : Type 0 where
   pub route : Route
   pub table : List ℕ
@@ -52,6 +52,10 @@ settled_if false ds = map (λ t. t.sent) (map (λ d. d.tx) ds)
 abbrev pub settled : View → List (List Item)
 settled v = settled_if v.busy v.dests
 
+-- how many destinations have not had the item in hand; 0 where no item is in hand
+abbrev pub owed_count : View → ℕ
+owed_count v = if v.busy then count_by (λ d. not d.had) v.dests else 0
+
 -- x is in hand: it goes to each destination, and those that have had the item in hand have had x last
 abbrev pub IsInHand : View → Item → Type 0
 IsInHand v x = (aim v x ≡ Each) × HandIs x (hads v) (sents v)
@@ -79,10 +83,11 @@ pub record GaveEach (a b : View) (x : Item) : Type 0 where
   pub busy : b.busy ≡ false
   pub turn : b.turn ≡ a.turn
 
--- exactly the destinations that have had x have it, behind what was settled; it is owed to the others, of which there is one at least, and which all knew of no free slot
+-- exactly the destinations that have had x have it, behind what was settled; it is owed to the others, of which there is one at least, and which all knew of no free slot; where it was in hand before, each destination that had had it still has
 pub record Owes (a b : View) (x : Item) : Type 0 where
   pub settled_kept : settled b ≡ settled a
   pub in_hand : IsInHand b x
+  pub kept : (k : ℕ) → a.busy ≡ true → get_or (hads a) k false ≡ true → get_or (hads b) k false ≡ true
   pub busy : b.busy ≡ true
   pub some : (k : ℕ) × (k < length b.dests) × (get_or (hads b) k true ≡ false)
   pub full : (k : ℕ) → k < length b.dests → get_or (hads b) k true ≡ false → get_or (frees a) k 0 ≡ 0

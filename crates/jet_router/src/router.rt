@@ -20,7 +20,7 @@ pub struct Router {
     // For a partitioned route the destination of each partition, and else empty.
     table: Vec<u32>,
     dests: Vec<Dest>,
-    // Whether an item is in hand that only some destinations have. The flags of the destinations hold only then.
+    // Whether an item is in hand that not each destination has had. The flags of the destinations hold only then.
     busy: bool,
     // The destination that data for any one is offered to first.
     turn: usize,
@@ -37,7 +37,7 @@ impl Router {
     ghost use Rattle.jet_ring.specs.Ring as ring;
     ghost use Rattle.jet_router.specs.Lending.{LendsTx};
     ghost use Rattle.jet_router.specs.Dest.{served, unserved, starts};
-    ghost use Rattle.jet_router.specs.Router.{view, txs, rings, sents, frees, reaches, aim as aim_at, IsInHand, SentTo, TriedFirst, NoneFree, IsNew, SameRouter, Refreshed};
+    ghost use Rattle.jet_router.specs.Router.{view, owed_count, txs, rings, sents, frees, reaches, aim as aim_at, IsInHand, SentTo, TriedFirst, NoneFree, IsNew, SameRouter, Refreshed};
     ghost use Rattle.jet_router.specs.Gives.{Gives};
     ghost use Rattle.jet_router.specs.declared.Given.TheVariants.{All as GivenAll, Again};
     ghost use Rattle.jet_router.specs.declared.aim.Aim.TheVariants.{Any, Only};
@@ -89,6 +89,25 @@ impl Router {
         self.dests.len() as u32
     }
 
+    /// How many destinations the item in hand is owed to, and 0 where no item is in hand.
+    ///
+    /// After `Again`, where an item was in hand before, something was sent exactly where `owed` fell. Where none was, an
+    /// item that goes to each was sent somewhere exactly where `owed` is less than `dests`.
+    pub fn owed(&self) -> u32
+        ensures { result ≡ owed_count (view self.now) }
+    {
+        if !self.busy {
+            return 0;
+        }
+        let mut owed = 0;
+        for dest in &self.dests {
+            if !dest.had {
+                owed += 1;
+            }
+        }
+        owed
+    }
+
     /// The end of one destination, for a meeting with its other end.
     pub fn tx(&mut self, dest: u32) -> &mut Tx<Item>
         requires { dest < length (view self.old).dests }
@@ -109,6 +128,7 @@ impl Router {
         ensures in_hand { (view self.new).busy ≡ true → IsInHand (view self.new) item.now }
         ensures same { SameRouter (view self.old) (view self.new) }
         ensures reach { reaches (view self.new) ≡ reaches (view self.old) }
+        ensures fewer { (k : ℕ) → get_or (frees (view self.new)) k 0 ≤ get_or (frees (view self.old)) k 0 }
     {
         match aim_for(self.route, &self.table, item) {
             Aim::Each => self.give_each(item),
@@ -130,6 +150,7 @@ impl Router {
         // every item that was sent is received or known, and every other slot is known to be free
         ensures all { ring.received rx.new ++ ring.known_items rx.new ≡ get_or (sents (view self.new)) dest [] }
         ensures free { get_or (frees (view self.new)) dest 0 + length (ring.known_items rx.new) ≡ ring.rx_cap rx.new }
+        ensures slots { (2 ≤ ring.rx_cap rx.new) × (ring.rx_cap rx.new ≤ 65536) }
 
         // no end knows less than before
         ensures seen { IsPrefix (ring.seen rx.old) (ring.seen rx.new) }

@@ -5,7 +5,7 @@ use Rattle.jet_router.specs.declared.aim.Aim.TheVariants.{Each}
 use Rattle.jet_router.specs.Aim.{key_of, aim_of}
 use Rattle.jet_router.specs.Router.{View, view, aim}
 use Rattle.jet_router.specs.Gives.{Gives}
-use Rattle.jet_router.proofs.Gifts.{ServedEach, same_served, reach_served, gives_each, in_hand_given}
+use Rattle.jet_router.proofs.Gifts.{ServedEach, same_served, reach_served, fewer_served, gives_each, in_hand_given}
 use Rattle.jet_router.proofs.router.Router.give.Goals as goal
 use Rattle.jet_router.proofs.router.Router.give.Goals.{After-give_each}
 
@@ -43,3 +43,6 @@ returns-in-Each-clause-same c = same_served (view c.args.self.now) (view c.give_
 
 pub returns-in-Each-clause-reach : goal.returns-in-Each-clause-reach
 returns-in-Each-clause-reach c = reach_served (view c.args.self.now) (view c.give_each.new.self) c.args.item.now (served_each c)
+
+pub returns-in-Each-clause-fewer : goal.returns-in-Each-clause-fewer
+returns-in-Each-clause-fewer c = fewer_served (view c.args.self.now) (view c.give_each.new.self) c.args.item.now (served_each c)
