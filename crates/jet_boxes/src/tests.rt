@@ -2,6 +2,8 @@
 use super::*;
 use jet_items::{Item, Mark};
 use std::test::Fail;
+use std::thread;
+use std::thread::Threads;
 
 fn is_done(item: Option<&Item>) -> Option<bool> {
     item.map(|item| item.is_done())
@@ -30,6 +32,29 @@ fn the_first_item_in_is_the_first_out(rt: HostRuntime) -> Result<(), Fail> {
     assert_eq!(rt; is_done(inbox.front()), Some(false));
     assert_eq!(rt; is_done(inbox.pop().as_ref()), Some(false));
     assert_eq!(rt; is_done(inbox.pop().as_ref()), Some(true));
+    assert_eq!(rt; inbox.free(), 2);
+    Ok(())
+}
+
+fn popped_apart<R: Threads + Sync>(rt: &R, inbox: Inbox) -> (Inbox, Option<Item>) {
+    let (popped, _) = thread::join(
+        rt,
+        move || {
+            let mut inbox = inbox;
+            let first = inbox.pop();
+            (inbox, first)
+        },
+        || (),
+    );
+    popped
+}
+
+#[test]
+fn a_box_crosses_to_a_thread_and_back(rt: HostRuntime) -> Result<(), Fail> {
+    let mut inbox = Inbox::new(rt.alloc(), 2)?;
+    assert_eq!(rt; inbox.offer(Item::Done).is_ok(), true);
+    let (inbox, first) = popped_apart(&rt, inbox);
+    assert_eq!(rt; is_done(first.as_ref()), Some(true));
     assert_eq!(rt; inbox.free(), 2);
     Ok(())
 }

@@ -2,6 +2,8 @@
 use super::*;
 use jet_items::Mark;
 use std::test::Fail;
+use std::thread;
+use std::thread::Threads;
 
 fn time(mark: Option<Mark>) -> Option<i64> {
     mark.map(|mark| mark.t)
@@ -36,5 +38,26 @@ fn a_queue_without_a_mark_holds_the_watermark_back(rt: HostRuntime) -> Result<()
     assert_eq!(rt; matches!(coalescer.done(0), Change::Unchanged), true);
     assert_eq!(rt; time(coalescer.observe(1, Mark { t: -7 })), None);
     assert_eq!(rt; raised(coalescer.done(2)), Some(-7));
+    Ok(())
+}
+
+fn low_apart<R: Threads + Sync>(rt: &R, coalescer: Coalescer) -> (Coalescer, Option<Mark>) {
+    let (lowest, _) = thread::join(
+        rt,
+        move || {
+            let low = coalescer.low();
+            (coalescer, low)
+        },
+        || (),
+    );
+    lowest
+}
+
+#[test]
+fn a_coalescer_crosses_to_a_thread_and_back(rt: HostRuntime) -> Result<(), Fail> {
+    let mut coalescer = Coalescer::new(rt.alloc(), 1)?;
+    assert_eq!(rt; time(coalescer.observe(0, Mark { t: 5 })), Some(5));
+    let (_, low) = low_apart(&rt, coalescer);
+    assert_eq!(rt; time(low), Some(5));
     Ok(())
 }

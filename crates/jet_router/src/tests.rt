@@ -8,6 +8,8 @@ use jet_items::{Event, Item, Key, Mark};
 use jet_ring::{Rx, Tx, ring};
 use std::alloc::Global;
 use std::test::Fail;
+use std::thread;
+use std::thread::Threads;
 
 struct Made {
     router: Router,
@@ -132,5 +134,28 @@ fn each_route_gives_what_its_rings_hold(rt: HostRuntime) -> Result<(), Fail> {
     assert_eq!(rt; gifts(isolated, &x), 2);
     assert_eq!(rt; gifts(partitioned(alloc).ok_or("memory")?, &x), 2);
     assert_eq!(rt; gifts(partitioned(alloc).ok_or("memory")?, &mark), 2);
+    Ok(())
+}
+
+fn moved_apart<R: Threads + Sync>(rt: &R, router: Router) -> (Router, u32) {
+    let (moved, _) = thread::join(
+        rt,
+        move || {
+            let dests = router.dests();
+            (router, dests)
+        },
+        || (),
+    );
+    moved
+}
+
+#[test]
+fn a_router_crosses_to_a_thread_and_back(rt: HostRuntime) -> Result<(), Fail> {
+    let alloc = rt.alloc();
+    let router = Router::unicast(alloc, ends(alloc).ok_or("memory")?)
+        .ok()
+        .ok_or("memory")?;
+    let (_, dests) = moved_apart(&rt, router);
+    assert_eq!(rt; dests, 2);
     Ok(())
 }
