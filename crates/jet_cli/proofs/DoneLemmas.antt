@@ -194,5 +194,5 @@ done_is c file before now old start new bytes rows given table opens adds run ro
       headline = head;
       pace = pace_is c file before now old start new bytes content closed table opens adds paced (opened_rest c.file content file old start found.1 opens) (vertices c (kept_among c (base_events content)) table all2);
       kept = run.content ∙ opens.content;
-      exact = All-cons (λ (k : Inflow). All (λ (e : EventValue). base_behind c content e ≡ false) k.events) (record { window = base_window c; events = kept_among c (base_events content) }) [] (kept_not_behind c content) (All-nil _);
+      exact = All-cons (λ (k : Inflow). All (λ (e : EventValue). base_behind c content e ≡ false) k.events) (record { window = base_window c; events = kept_among c (base_events content) }) [] (kept_not_behind c content) (All-nil (λ (k : Inflow). All (λ (e : EventValue). base_behind c content e ≡ false) k.events));
     }

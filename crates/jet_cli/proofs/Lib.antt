@@ -12,3 +12,4 @@ pub mod LineLemmas
 pub mod ProgressLemmas
 pub mod RunLemmas
 pub mod PaceLemmas
+pub mod OneOutput

@@ -110,10 +110,10 @@ shorter p f (r ∷ rows) = with_test (p r) (shorter p f rows)
     with_test true less = omega (arith, less, length-append (f r) (flat_map f (filter p rows)), length-append (f r) (flat_map f rows))
     with_test false less = omega (arith, less, length-append (f r) (flat_map f rows))
 
-filter_nothing : (p : RowValue → Bool) (rows : List RowValue) → All (λ r. p r ≡ false) rows → filter p rows ≡ []
+pub filter_nothing : {X : Type 0} (p : X → Bool) (xs : List X) → All (λ x. p x ≡ false) xs → filter p xs ≡ []
 filter_nothing p [] h = refl
-filter_nothing p (r ∷ rows) h =
-    ap (λ (b : Bool). cond b (r ∷ filter p rows) (filter p rows)) (All-head (λ (r : RowValue). p r ≡ false) r rows h) ∙ filter_nothing p rows (All-tail (λ (r : RowValue). p r ≡ false) r rows h)
+filter_nothing {X} p (x ∷ xs) h =
+    ap (λ (b : Bool). cond b (x ∷ filter p xs) (filter p xs)) (All-head (λ (x : X). p x ≡ false) x xs h) ∙ filter_nothing p xs (All-tail (λ (x : X). p x ≡ false) x xs h)
 
 not_yet : (end m t ahead : ℤ) → pos 0 ≤ℤ ahead → m ≤ℤ t → t <ℤ end → int_le end (m -ℤ ahead) ≡ false
 not_yet end m t ahead a h k = grind (arith, ints, rules, a, h, k)

@@ -16,3 +16,4 @@ pub mod Took
 pub mod Words
 pub mod WordsView
 pub mod Pacing
+pub mod Laws

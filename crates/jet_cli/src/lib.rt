@@ -9,6 +9,7 @@ mod base;
 mod counter;
 mod feed;
 mod gate;
+mod laws;
 mod print;
 mod real;
 mod run;
@@ -17,6 +18,7 @@ mod steps;
 mod words;
 
 pub use gate::{FreeGate, Gate};
+pub use laws::output_is_one;
 pub use print::{exit_status, print_status};
 pub use real::RealOutside;
 pub use run::run_jet;
