@@ -101,8 +101,8 @@ fn windows_of_one_file(rt: HostRuntime) -> Result<(), Fail> {
 }
 
 #[test]
-fn refusals_and_faults(rt: HostRuntime) -> Result<(), Fail> {
-    let words = |words, status| Case {
+fn words_and_sizes_that_are_refused(rt: HostRuntime) -> Result<(), Fail> {
+    let refused = |words, status| Case {
         words,
         file: b"7,a,2\n",
         failing: 0,
@@ -112,38 +112,50 @@ fn refusals_and_faults(rt: HostRuntime) -> Result<(), Fail> {
     };
     let sizes = |fault| Status::JobRefused(Refusal::Plan(PlanFault::Policy(1, fault)));
     let cases = [
-        words("window 10 3 0 t.csv", sizes(PolicyFault::NotMultiple)),
-        words("window 1025 1 0 t.csv", sizes(PolicyFault::Ratio)),
-        words(
+        refused("window 10 3 0 t.csv", sizes(PolicyFault::NotMultiple)),
+        refused("window 1025 1 0 t.csv", sizes(PolicyFault::Ratio)),
+        refused(
             "window 9999999999999999 5 0 t.csv",
             sizes(PolicyFault::Size),
         ),
-        words("window 10 5 3", Status::Usage),
-        words("window 10 5 3 -t.csv", Status::Usage),
-        words("window 10 5 1000000000000001 t.csv", Status::Usage),
-        words("window 10 +5 3 t.csv", Status::Usage),
-        words("fly", Status::Usage),
-        words("--help", Status::Usage),
-        words("window 10 5 3 u.csv", fault(Call::Open, Spot::Part(0))),
+        refused("window 10 5 3", Status::Usage),
+        refused("window 10 5 3 -t.csv", Status::Usage),
+        refused("window 10 5 1000000000000001 t.csv", Status::Usage),
+        refused("window 10 +5 3 t.csv", Status::Usage),
+        refused("fly", Status::Usage),
+        refused("--help", Status::Usage),
+    ];
+    for case in &cases {
+        check::<HostRuntime, Brand>(&rt, rt.alloc(), case, Blank::new(1))?;
+    }
+    Ok(())
+}
+
+#[test]
+fn faults_and_a_bad_line(rt: HostRuntime) -> Result<(), Fail> {
+    let failing = |words, failing, status| Case {
+        words,
+        file: b"7,a,2\n",
+        failing,
+        status,
+        rows: "",
+        notes: "",
+    };
+    let cases = [
+        failing("window 10 5 3 u.csv", 0, fault(Call::Open, Spot::Part(0))),
+        failing("window 10 5 3 t.csv", 3, fault(Call::Read, Spot::Part(0))),
+        failing("window 10 5 3 t.csv", 4, fault(Call::Write, Spot::Rows)),
         Case {
-            failing: 3,
-            ..words("window 10 5 3 t.csv", fault(Call::Read, Spot::Part(0)))
-        },
-        Case {
-            failing: 4,
-            ..words("window 10 5 3 t.csv", fault(Call::Write, Spot::Rows))
-        },
-        Case {
+            words: "window 10 5 3 t.csv",
             file: b"7,a,2\n30,a,1\nx,a,1\n",
+            failing: 0,
+            status: Status::BadLine {
+                part: 0,
+                line: 3,
+                why: LineFault::Number(0),
+            },
             rows: "w,0,10,a,1,2,2,2\nw,5,15,a,1,2,2,2\n",
-            ..words(
-                "window 10 5 3 t.csv",
-                Status::BadLine {
-                    part: 0,
-                    line: 3,
-                    why: LineFault::Number(0),
-                },
-            )
+            notes: "",
         },
     ];
     for case in &cases {

@@ -27,7 +27,8 @@ abbrev pub fields_behind : List ℕ → Option ℕ → Result (List (List ℕ)) 
 fields_behind line None = fields_or_fault (fields_of line)
 fields_behind line (Some at) = Err (BadByte at)
 
--- the fields of a line, where it isn't too long, has no bad byte, and is plain and quoted fields between commas
+-- the fields of a line, where it isn't too long, has no bad byte, and is plain and quoted fields between commas; `fields_of`
+-- reads them from the left, and the law `fields_are_of_the_grammar` says that they are those of the grammar
 abbrev pub fields_at : List ℕ → Result (List (List ℕ)) LineFault
 fields_at line = if nat_lt 512 (length line) then Err TooLong else fields_behind line (position (λ b. not (is_line_byte b)) line)
 

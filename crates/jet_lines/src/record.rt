@@ -29,36 +29,22 @@ pub(crate) fn record_of(alloc: Global, line: &[u8]) -> Result<ByteRecord, Refuse
     }
 }
 
-// The same of a line whose bytes are good.
+// The same of a line whose bytes are good. One without a quotation mark has the form.
 fn formed(alloc: Global, line: &[u8]) -> Result<ByteRecord, Refused<LineFault>>
     requires some { line.now ≢ [] }
     requires good { list_all is_line_byte line.now ≡ true }
     ensures { Gives record_fields result (fields_or_fault (fields_of line.now)) }
 {
+    if is_unquoted(line) {
+        return Ok(split_fields(alloc, line)?);
+    }
     if !has_form(line) {
         return Err(Refused::Fault(LineFault::Quote));
     }
-    match read_fields(alloc, line) {
-        Ok(row) => Ok(row),
-        Err(NoMemory) => Err(Refused::NoMemory),
-    }
+    Ok(csv_fields(alloc, line)?)
 }
 
-// The fields of a line that has the form.
-fn read_fields(alloc: Global, line: &[u8]) -> Result<ByteRecord, NoMemory>
-    requires some { line.now ≢ [] }
-    requires good { list_all is_line_byte line.now ≡ true }
-    requires form { is_some (fields_of line.now) ≡ true }
-    ensures { IfOk result (λ row. fields_of line.now ≡ Some (record_fields row)) }
-{
-    if is_unquoted(line) {
-        split_fields(alloc, line)
-    } else {
-        csv_fields(alloc, line)
-    }
-}
-
-// The same, as csv reads them.
+// The fields of a line that has the form, as csv reads them.
 fn csv_fields(alloc: Global, line: &[u8]) -> Result<ByteRecord, NoMemory>
     requires some { line.now ≢ [] }
     requires good { list_all is_line_byte line.now ≡ true }

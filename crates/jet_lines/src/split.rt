@@ -9,6 +9,9 @@ use csv::ByteRecord;
 use jet_items::NoMemory;
 use std::alloc::Global;
 
+// A good line has no more fields, so that one with more may take memory again.
+const MOST_FIELDS: usize = 6;
+
 /// Whether a line has no quotation mark.
 pub(crate) fn is_unquoted(line: &[u8]) -> bool
     ensures { result ≡ list_all (λ b. not (b == 34)) line.now }
@@ -28,7 +31,7 @@ pub(crate) fn split_fields(alloc: Global, line: &[u8]) -> Result<ByteRecord, NoM
 fn parts_of(alloc: Global, line: &[u8]) -> Result<ByteRecord, NoMemory>
     ensures { IfOk result (λ row. record_fields row ≡ slice_split (λ b. b == 44) line.now) }
 {
-    let mut row = ByteRecord::new(alloc);
+    let mut row = ByteRecord::with_capacity(alloc, line.len(), MOST_FIELDS)?;
     let mut rest = line;
     'parts: while let Some((part, after)) = first_part(rest) {
         row.push_field(part)?;
