@@ -45,7 +45,7 @@ fn check<R: Threads + Abort + Sync, L: Ledger>(
         fail.push(case.failing)?;
     }
     let mut out = MemoryOutside::new(alloc, fail, 4096)?;
-    let _ = out.add(b"t.csv", case.file.to_vec(alloc)?);
+    out.add(b"t.csv", case.file.to_vec(alloc)?)?;
     let mut steps: Steps<L> = Steps::new(blank);
     let status = run_jet(rt, alloc, &words, &mut out, &FreeGate, &mut steps);
     assert_eq!(rt; status, case.status);
