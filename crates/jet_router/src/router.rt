@@ -90,9 +90,6 @@ impl Router {
     }
 
     /// How many destinations the item in hand is owed to, and 0 where no item is in hand.
-    ///
-    /// After `Again`, where an item was in hand before, something was sent exactly where `owed` fell. Where none was, an
-    /// item that goes to each was sent somewhere exactly where `owed` is less than `dests`.
     pub fn owed(&self) -> u32
         ensures { result ≡ owed_count (view self.now) }
     {
