@@ -3,7 +3,7 @@ use Rattle.std.proofs.Common.{◌≡◌, ◌++◌, List, ℕ, ℤ, [], ◌∷◌
 use Rattle.std.specs.List.{join_with_byte, flat_map}
 use Rattle.std.specs.Fmt.{signed_decimal}
 use Rattle.std.specs.Prelude.{codes}
-use Rattle.jet_file.specs.Text.{line_text}
+use Rattle.jet_items.specs.LineText.{line_text}
 
 pub row-parts : (name start end key count sum min max : List ℕ) →
     name ++ ((44 ∷ (start ++ 44 ∷ (end ++ 44 ∷ []))) ++ (key ++ (44 ∷ (count ++ 44 ∷ (sum ++ 44 ∷ (min ++ 44 ∷ (max ++ 10 ∷ [])))))))

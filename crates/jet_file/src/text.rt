@@ -1,7 +1,8 @@
 // The texts of rows and late lines. Each is built whole before it is appended, so that want of memory appends nothing.
 ghost use Rattle.std.specs.Prelude.{◌≡◌, ◌++◌, [], ◌∷◌, pos, ◌≤ℤ◌, IfOk, OnOk, OnErr, decimal, string_bytes, flat_map, codes, map};
 ghost use Rattle.std.specs.Fmt.{signed_decimal};
-ghost use Rattle.jet_file.specs.Text.{row_line, late_line, line_text};
+ghost use Rattle.jet_items.specs.LineText.{line_text};
+ghost use Rattle.jet_file.specs.Text.{row_line, late_line};
 
 use jet_items::{Acc, Key, Late, NoMemory, Row};
 use std::alloc::{AllocError, Global};

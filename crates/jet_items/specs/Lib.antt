@@ -1,9 +1,15 @@
 pub mod Bag
 pub mod Done
+pub mod Frames
+pub mod Gives
 pub mod Grid
+pub mod Joins
 pub mod KeyBytes
 pub mod KeyFaults
+pub mod Kinds
+pub mod LineText
 pub mod Marks
+pub mod Order
 pub mod Partition
 pub mod Ranges
 pub mod Rows

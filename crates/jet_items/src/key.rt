@@ -1,5 +1,5 @@
 // Keys: one to forty bytes of a small alphabet, kept in place, so that a key is copied without memory.
-ghost use Rattle.std.specs.Prelude.{◌≡◌, ◌≤◌, ◌<◌, length, not, position, IfSome, ◌++◌, ◌-◌, replicate, ◌==◌};
+ghost use Rattle.std.specs.Prelude.{◌≡◌, ◌≤◌, ◌<◌, length, not, position, take, IfSome, ◌++◌, ◌-◌, replicate, ◌==◌, ◌+◌};
 ghost use Rattle.std.specs.Ordering.{nat_cmp, as_partial_cmp};
 ghost use Rattle.std.specs.Cmp.{partial_order_from_own_ties};
 ghost use Rattle.std.specs.Cmp.Lexicographic.{slice_cmp, pointwise};
@@ -78,6 +78,15 @@ impl Key {
     {
         &self.padded[..self.len as usize]
     }
+
+    /// The first forty bytes of the key followed by the tag.
+    pub fn joined(&self, tag: &Key) -> Key
+        ensures { result ≡ take 40 (self.now ++ tag.now) }
+    {
+        let (own, more) = (self.bytes(), tag.bytes());
+        let padded = both_padded(own, more);
+        key_of(&padded[..(own.len() + more.len()).min(40)])
+    }
 }
 
 impl PartialEq for Key {
@@ -150,5 +159,26 @@ fn padded_with(bytes: &[u8]) -> [u8; 40]
 {
     let mut padded = [0; 40];
     padded[..bytes.len()].copy_from_slice(bytes);
+    padded
+}
+
+// The bytes, and zeros behind them up to twice the length of the longest key.
+fn padded_twice(bytes: &[u8]) -> [u8; 80]
+    requires { length bytes.now ≤ 40 }
+    ensures { result ≡ bytes.now ++ replicate (80 - length bytes.now) 0 }
+{
+    let mut padded = [0; 80];
+    padded[..bytes.len()].copy_from_slice(bytes);
+    padded
+}
+
+// The bytes of both, and zeros behind them.
+fn both_padded(front: &[u8], back: &[u8]) -> [u8; 80]
+    requires front { length front.now ≤ 40 }
+    requires back { length back.now ≤ 40 }
+    ensures { take (length front.now + length back.now) result ≡ front.now ++ back.now }
+{
+    let mut padded = padded_twice(front);
+    padded[front.len()..front.len() + back.len()].copy_from_slice(back);
     padded
 }

@@ -1,7 +1,7 @@
 //! What passes between the parts of a job: keys, events, side rows, frames, rows, late events, marks and the end of a
 //! queue.
 //!
-//! All are plain values of fixed size, copied without memory. Contracts see each as a record with the same field
+//! All but `List` are plain values of fixed size, copied without memory. Contracts see each as a record with the same field
 //! names; that its numbers lie in their ranges is the type's invariant. The definitions that several crates cite,
 //! of keys, ranges, multiples, windows, watermarks and rows, stand in `specs/` of this crate.
 #![tactic(auto)]
@@ -12,6 +12,7 @@ mod frame;
 mod item;
 mod key;
 mod late;
+mod list;
 mod mark;
 mod no_memory;
 mod partition;
@@ -24,6 +25,7 @@ pub use frame::Frame;
 pub use item::Item;
 pub use key::{Key, KeyFault};
 pub use late::Late;
+pub use list::List;
 pub use mark::Mark;
 pub use no_memory::{NoMemory, Refused};
 pub use partition::partition_of;

@@ -29,3 +29,32 @@ fn keys_have_their_partitions(rt: HostRuntime) -> Result<(), Fail> {
     }
     Ok(())
 }
+
+#[test]
+fn a_joined_key_is_cut_at_forty_bytes(rt: HostRuntime) -> Result<(), Fail> {
+    let cases: [(&[u8], &[u8], &[u8]); 2] = [
+        (b"a", b":x", b"a:x"),
+        (
+            b"0123456789012345678901234",
+            b":12345678901234567",
+            b"0123456789012345678901234:12345678901234",
+        ),
+    ];
+    for (key, tag, joined) in cases {
+        let keys = Key::read(key, 40).ok().zip(Key::read(tag, 40).ok());
+        let found = keys.map(|(key, tag)| key.joined(&tag));
+        assert_eq!(rt; found == Key::read(joined, 40).ok(), true);
+    }
+    Ok(())
+}
+
+#[test]
+fn a_list_keeps_its_items_in_order(rt: HostRuntime) -> Result<(), Fail> {
+    let mut list = List::new(rt.alloc());
+    assert_eq!(rt; list.items().len(), 0);
+    for n in 0u32..3 {
+        assert_eq!(rt; list.push(n), Ok(()));
+    }
+    assert_eq!(rt; list.items(), [0, 1, 2].as_slice());
+    Ok(())
+}
