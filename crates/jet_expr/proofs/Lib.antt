@@ -1,0 +1,9 @@
+pub mod Follows
+pub mod Sound
+pub mod TokenLemmas
+pub mod Maps
+pub mod Goes
+pub mod Exact
+pub mod Ends
+pub mod ReadLemmas
+pub mod FloorLemmas

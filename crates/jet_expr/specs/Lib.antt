@@ -1,0 +1,13 @@
+pub mod Term
+pub mod Nodes
+pub mod Value
+pub mod Flows
+pub mod Faults
+pub mod Syntax
+pub mod Machine
+pub mod Tokens
+pub mod Grammar
+pub mod States
+pub mod Advances
+pub mod Gives
+pub mod Floors
