@@ -1,0 +1,315 @@
+-- What a stamp's laws say goes on by one entry.
+use Rattle.std.proofs.Common.{◌≡◌, ℕ, ◌<◌, ◌==◌, Bool, true, false, cond, ◌||◌, ℤ, pos, ◌≤ℤ◌, List, [], ◌∷◌, ◌++◌, map, Option, Some, None, refl, ap, sym, ◌∙◌, subst, arith, append_assoc, append-nil}
+use Rattle.std.proofs.lemmas.Int.{ints}
+use Rattle.std.proofs.lemmas.List.{map-append}
+use Rattle.std.proofs.lemmas.List.Concat.{flat_map-append}
+use Rattle.std.proofs.lemmas.List.Folds.{list_any-append}
+use Rattle.jet_items.specs.Values.{EventValue}
+use Rattle.jet_items.specs.declared.item.Item.{Item}
+use Rattle.jet_items.specs.declared.item.Item.TheVariants as item
+use Rattle.jet_items.specs.Order.{Each, EachPair, Sound, SoundAfter, SoundBelow, LateIsBehind, Closed as ClosedItems, ClosedAfter, IsAbove}
+use Rattle.jet_items.specs.Kinds.{as_mark, marks_of}
+use Rattle.jet_items.specs.Marks.{mark_of, is_behind}
+use Rattle.jet_items.proofs.Orders.{Each-append, Each-front, Each-back, Each-more, EachPair-append, EachPair-across}
+use Rattle.jet_boxes.specs.declared.port.Port.TheVariants.{Stream, Build}
+use Rattle.jet_boxes.specs.Entry.{Entry, Given, Told, Closed, Finish, IsData, items_of}
+use Rattle.jet_stages.specs.Stamp.{event_from, queue_events, queue_times, closes, is_closed, queue_mark, IsReached, IsLeastMark, IsPlaced, StampMarks, as_data, data_of, StampBag, StandsIn, IsNotLate, FromFiles, IsNoResult, HasNoResults}
+use Rattle.jet_stages.specs.StampLaws.{items_next, events_next, data_next, data_marks, files_before, results_before}
+use Rattle.jet_stages.specs.Stamping.{Rises, IsPast, Stamped, passed, mark_items}
+use Rattle.jet_stages.specs.Placing.{Half, First, Second, half, tail_is, nowhere}
+use Rattle.jet_stages.proofs.Marking.{Reaches, grows, stands_behind}
+
+-- what every call's condition gives of its entry
+abbrev pub Comes : ℕ → List Entry → Entry → Type 0
+Comes n taken (Given Stream queue x) = (queue < n) × IsData x × (is_closed queue taken ≡ false)
+Comes n taken (Given Build queue x) = ⊥
+Comes n taken (Told t) = Unit {0}
+Comes n taken (Closed Stream queue) = (queue < n) × (is_closed queue taken ≡ false)
+Comes n taken (Closed Build queue) = ⊥
+Comes n taken Finish = Unit {0}
+
+-- ---- the queues after one entry more
+
+pub times_next : (q : ℕ) (taken : List Entry) (entry : Entry) → queue_times q (taken ++ entry ∷ []) ≡ queue_times q taken ++ map (λ e. e.ts) (event_from q entry)
+times_next q taken entry = ap (map (λ (e : EventValue). e.ts)) (events_next q taken entry) ∙ map-append (λ (e : EventValue). e.ts) (queue_events q taken) (event_from q entry)
+
+pub closed_next : (q : ℕ) (taken : List Entry) (entry : Entry) → is_closed q (taken ++ entry ∷ []) ≡ (is_closed q taken || closes q entry)
+closed_next q taken entry = list_any-append (closes q) taken (entry ∷ []) ∙ ap (λ b. is_closed q taken || b) (or_false (closes q entry))
+  where
+    or_false : (b : Bool) → (b || false) ≡ b
+    or_false true = refl
+    or_false false = refl
+
+neither : (a b : Bool) → (a || b) ≡ false → a ≡ false
+neither true b h = cc
+neither false b h = refl
+
+-- a queue that is open after an entry was open before it
+pub was_open : (q : ℕ) (taken : List Entry) (entry : Entry) → is_closed q (taken ++ entry ∷ []) ≡ false → is_closed q taken ≡ false
+was_open q taken entry h = neither (is_closed q taken) (closes q entry) (sym (closed_next q taken entry) ∙ h)
+
+pub mark_next : (lag grain w : ℤ) (q : ℕ) (taken : List Entry) (entry : Entry) → pos 1 ≤ℤ grain → Reaches w (queue_mark lag grain q taken) → Reaches w (queue_mark lag grain q (taken ++ entry ∷ []))
+mark_next lag grain w q taken entry step h =
+    subst (λ (ts : List ℤ). Reaches w (mark_of lag grain ts)) (sym (times_next q taken entry)) (grows lag grain w (queue_times q taken) (map (λ e. e.ts) (event_from q entry)) step h)
+
+pub reached_next : (n : ℕ) (lag grain w : ℤ) (taken : List Entry) (entry : Entry) → pos 1 ≤ℤ grain → IsReached n lag grain taken w → IsReached n lag grain (taken ++ entry ∷ []) w
+reached_next n lag grain w taken entry step h = λ q inside going. mark_next lag grain w q taken entry step (h q inside (was_open q taken entry going))
+
+-- ---- the least mark
+
+at_least : (t s : ℤ) (mark : Option ℤ) → mark ≡ Some s → Reaches t mark → t ≤ℤ s
+at_least t s mark is h = subst (Reaches t) is h
+
+pub both_ways : (s t : ℤ) → s ≤ℤ t → t ≤ℤ s → s ≡ t
+both_ways s t h k = omega (arith, ints, h, k)
+
+pub least_is_one : (n : ℕ) (lag grain s t : ℤ) (taken : List Entry) → IsLeastMark n lag grain taken s → IsLeastMark n lag grain taken t → s ≡ t
+least_is_one n lag grain s t taken h k =
+    both_ways s t (at_least s t (queue_mark lag grain k.queue taken) k.has (h.reached k.queue k.exists k.going)) (at_least t s (queue_mark lag grain h.queue taken) h.has (k.reached h.queue h.exists h.going))
+
+-- ---- what was given
+
+pub passed_marks : (n : ℕ) (taken : List Entry) (entry : Entry) → Comes n taken entry → marks_of (passed entry) ≡ []
+passed_marks n taken (Given Stream queue x) h = append-nil (as_mark x) ∙ data_marks x h.1
+passed_marks n taken (Given Build queue x) h = absurd h
+passed_marks n taken (Told t) h = refl
+passed_marks n taken (Closed port queue) h = refl
+passed_marks n taken Finish h = refl
+
+abbrev mark_list : Option ℤ → List ℤ
+mark_list None = []
+mark_list (Some t) = t ∷ []
+
+marks_list : (told : Option ℤ) → marks_of (mark_items told) ≡ mark_list told
+marks_list None = refl
+marks_list (Some t) = refl
+
+pub marks_next : (n : ℕ) (taken : List Entry) (entry : Entry) (given : List Item) (told : Option ℤ) → Comes n taken entry → marks_of ((given ++ passed entry) ++ mark_items told) ≡ marks_of given ++ mark_list told
+marks_next n taken entry given told h =
+    flat_map-append as_mark (given ++ passed entry) (mark_items told)
+    ∙ (ap (λ ts. ts ++ marks_of (mark_items told)) (flat_map-append as_mark given (passed entry) ∙ (ap (λ ts. marks_of given ++ ts) (passed_marks n taken entry h) ∙ append-nil (marks_of given)))
+    ∙ ap (λ ts. marks_of given ++ ts) (marks_list told))
+
+pub bag_next : (taken : List Entry) (entry : Entry) (given : List Item) (told : Option ℤ) → StampBag taken given → StampBag (taken ++ entry ∷ []) ((given ++ passed entry) ++ mark_items told)
+bag_next taken entry given told h =
+    flat_map-append as_data (given ++ passed entry) (mark_items told)
+    ∙ (ap (λ xs. data_of (given ++ passed entry) ++ xs) (no_data told)
+    ∙ (append-nil (data_of (given ++ passed entry)) ∙ data_next taken entry given h))
+  where
+    no_data : (o : Option ℤ) → data_of (mark_items o) ≡ []
+    no_data None = refl
+    no_data (Some t) = refl
+
+placed_before : (n : ℕ) (lag grain : ℤ) (taken : List Entry) (entry : Entry) (before : List Item) (t : ℤ) → IsPlaced n lag grain taken before t → IsPlaced n lag grain (taken ++ entry ∷ []) before t
+placed_before n lag grain taken entry before t h =
+    record {
+      front = h.front;
+      back = h.back ++ entry ∷ [];
+      parts = ap (λ es. es ++ entry ∷ []) h.parts ∙ append_assoc h.front h.back (entry ∷ []);
+      least = h.least;
+      behind = h.behind;
+    }
+
+same_mark : (s t : ℤ) (after : List Item) → item.Mark s ∷ [] ≡ item.Mark t ∷ after → s ≡ t
+same_mark s t after h = cc
+
+marks_go_on : (n : ℕ) (lag grain : ℤ) (taken : List Entry) (entry : Entry) (given : List Item) (told : Option ℤ) → Comes n taken entry → Rises n lag grain taken (taken ++ entry ∷ []) told → StampBag taken given → StampMarks n lag grain taken given → StampMarks n lag grain (taken ++ entry ∷ []) ((given ++ passed entry) ++ mark_items told)
+marks_go_on n lag grain taken entry given told comes rises bag h =
+    record {
+      placed = λ before after t at. new told rises before after t (half (given ++ passed entry) (mark_items told) before after t at);
+      last = λ t least. last_is told rises t least (marks_next n taken entry given told comes);
+    }
+  where
+    old : (before after : List Item) (t : ℤ) → Half given (passed entry) before after t → IsPlaced n lag grain (taken ++ entry ∷ []) before t
+    old before after t (First rest is) = placed_before n lag grain taken entry before t (h.placed before rest t is)
+    old before after t (Second front is at) = absurd (nowhere (passed entry) front after t (passed_marks n taken entry comes) at)
+
+    new : (o : Option ℤ) → Rises n lag grain taken (taken ++ entry ∷ []) o → (before after : List Item) (t : ℤ) → Half (given ++ passed entry) (mark_items o) before after t → IsPlaced n lag grain (taken ++ entry ∷ []) before t
+    new o r before after t (First rest is) = old before rest t (half given (passed entry) before rest t is)
+    new None r before after t (Second front is at) = absurd (nowhere [] front after t refl at)
+    new (Some s) r before after t (Second [] is at) =
+        record {
+          front = taken ++ entry ∷ [];
+          back = [];
+          parts = sym (append-nil (taken ++ entry ∷ []));
+          least = subst (IsLeastMark n lag grain (taken ++ entry ∷ [])) (same_mark s t after at) r.rose.0;
+          behind = ap data_of (is ∙ append-nil (given ++ passed entry)) ∙ data_next taken entry given bag;
+        }
+    new (Some s) r before after t (Second (x ∷ front) is at) = absurd (nowhere [] front after t refl (tail_is (item.Mark s) x [] (front ++ item.Mark t ∷ after) at))
+
+    last_is : (o : Option ℤ) → Rises n lag grain taken (taken ++ entry ∷ []) o → (t : ℤ) → IsLeastMark n lag grain (taken ++ entry ∷ []) t → marks_of ((given ++ passed entry) ++ mark_items told) ≡ marks_of given ++ mark_list o → (before : List ℤ) × (marks_of ((given ++ passed entry) ++ mark_items told) ≡ before ++ t ∷ [])
+    last_is None r t least is = let was = h.last t (r.stayed t least) in (was.0, is ∙ (append-nil (marks_of given) ∙ was.1))
+    last_is (Some s) r t least is = (marks_of given, is ∙ ap (λ (z : ℤ). marks_of given ++ z ∷ []) (least_is_one n lag grain s t (taken ++ entry ∷ []) r.rose.0 least))
+
+-- ---- the order
+
+past_next : (n : ℕ) (lag grain : ℤ) (taken : List Entry) (entry : Entry) → pos 1 ≤ℤ grain → (x : Item) → IsPast n lag grain taken x → IsPast n lag grain (taken ++ entry ∷ []) x
+past_next n lag grain taken entry step (item.Event e) h = tt
+past_next n lag grain taken entry step (item.Side s) h = tt
+past_next n lag grain taken entry step (item.Frame f) h = tt
+past_next n lag grain taken entry step (item.Row r) h = tt
+past_next n lag grain taken entry step (item.Late l) h = tt
+past_next n lag grain taken entry step (item.Mark w) h = reached_next n lag grain w taken entry step h
+past_next n lag grain taken entry step item.Done h = h
+
+data_past : (n : ℕ) (lag grain : ℤ) (taken : List Entry) (x : Item) → IsData x → IsPast n lag grain taken x
+data_past n lag grain taken (item.Event e) h = tt
+data_past n lag grain taken (item.Side s) h = tt
+data_past n lag grain taken (item.Frame f) h = tt
+data_past n lag grain taken (item.Row r) h = tt
+data_past n lag grain taken (item.Late l) h = tt
+data_past n lag grain taken (item.Mark m) h = absurd h
+data_past n lag grain taken item.Done h = absurd h
+
+passed_past : (n : ℕ) (lag grain : ℤ) (before taken : List Entry) (entry : Entry) → Comes n before entry → Each (IsPast n lag grain taken) (passed entry)
+passed_past n lag grain before taken (Given Stream queue x) h = (data_past n lag grain taken x h.1, tt)
+passed_past n lag grain before taken (Given Build queue x) h = absurd h
+passed_past n lag grain before taken (Told t) h = tt
+passed_past n lag grain before taken (Closed port queue) h = tt
+passed_past n lag grain before taken Finish h = tt
+
+marks_past : (n : ℕ) (lag grain : ℤ) (before after : List Entry) (told : Option ℤ) → Rises n lag grain before after told → Each (IsPast n lag grain after) (mark_items told)
+marks_past n lag grain before after None r = tt
+marks_past n lag grain before after (Some t) r = (r.rose.0.reached, tt)
+
+pairs_push : (R : Item → Item → Type 0) (xs : List Item) (x : Item) → EachPair R xs → Each (λ y. R y x) xs → EachPair R (xs ++ x ∷ [])
+pairs_push R xs x h k = EachPair-append R xs (x ∷ []) h (tt, tt) (Each-more (λ y. R y x) (λ y. Each (R y) (x ∷ [])) (λ y r. (r, tt)) xs k)
+
+sound_mark : (behind : ℕ → ℕ → Bool) (t : ℤ) (y : Item) → SoundAfter behind y (item.Mark t)
+sound_mark behind t (item.Event e) = tt
+sound_mark behind t (item.Side s) = tt
+sound_mark behind t (item.Frame f) = tt
+sound_mark behind t (item.Row r) = tt
+sound_mark behind t (item.Late l) = tt
+sound_mark behind t (item.Mark w) = tt
+sound_mark behind t item.Done = tt
+
+every : (P : Item → Type 0) → ((x : Item) → P x) → (xs : List Item) → Each P xs
+every P p [] = tt
+every P p (x ∷ xs) = (p x, every P p xs)
+
+pub sound_marks : (behind : ℕ → ℕ → Bool) (xs : List Item) (told : Option ℤ) → Sound behind xs → Sound behind (xs ++ mark_items told)
+sound_marks behind xs None s = subst (Sound behind) (sym (append-nil xs)) s
+sound_marks behind xs (Some t) s =
+    record {
+      after = pairs_push (SoundAfter behind) xs (item.Mark t) s.after (every (λ y. SoundAfter behind y (item.Mark t)) (sound_mark behind t) xs);
+      lates = Each-append (LateIsBehind behind) xs (item.Mark t ∷ []) s.lates (tt, tt);
+    }
+
+-- an item of an open queue, after what was given before it
+abbrev Below : (ℕ → ℕ → Bool) → ℕ → ℤ → ℤ → List Entry → Item → Type 0
+Below behind n lag grain taken x = (w : ℤ) → IsReached n lag grain taken w → SoundBelow behind w x
+
+sound_past : (behind : ℕ → ℕ → Bool) (n : ℕ) (lag grain : ℤ) (taken : List Entry) (x : Item) → Below behind n lag grain taken x → (y : Item) → IsPast n lag grain taken y → SoundAfter behind y x
+sound_past behind n lag grain taken x below (item.Event e) h = tt
+sound_past behind n lag grain taken x below (item.Side s) h = tt
+sound_past behind n lag grain taken x below (item.Frame f) h = tt
+sound_past behind n lag grain taken x below (item.Row r) h = tt
+sound_past behind n lag grain taken x below (item.Late l) h = tt
+sound_past behind n lag grain taken x below (item.Mark w) h = below w h
+sound_past behind n lag grain taken x below item.Done h = absurd h
+
+late_not : (behind : ℕ → ℕ → Bool) (x : Item) → IsNotLate x → LateIsBehind behind x
+late_not behind (item.Event e) h = tt
+late_not behind (item.Side s) h = tt
+late_not behind (item.Frame f) h = tt
+late_not behind (item.Row r) h = tt
+late_not behind (item.Late l) h = absurd h
+late_not behind (item.Mark m) h = tt
+late_not behind item.Done h = tt
+
+pub same_queue : (q : ℕ) → (q == q) ≡ true
+same_queue q = grind arith
+
+own_event : (q : ℕ) (taken : List Entry) (e : EventValue) → queue_events q (taken ++ Given Stream q (item.Event e) ∷ []) ≡ queue_events q taken ++ e ∷ []
+own_event q taken e = events_next q taken (Given Stream q (item.Event e)) ∙ ap (λ (b : Bool). queue_events q taken ++ cond b (e ∷ []) []) (same_queue q)
+
+last_each : (P : EventValue → Type 0) (es : List EventValue) (e : EventValue) → Each P (es ++ e ∷ []) → P e
+last_each P es e h = (Each-back P es (e ∷ []) h).0
+
+told_at : (P : EventValue → Type 0) (file : List EventValue) (e : EventValue) → StandsIn file e → Each P file → P e
+told_at P file e stands h = (Each-back P stands.0 (e ∷ stands.1) (subst (Each P) stands.2 h)).0
+
+before_last : (e : EventValue) (es : List EventValue) → Each (λ d. Each (λ x. d.line < x.line) (e ∷ [])) es → Each (λ d. d.line < e.line) es
+before_last e es h = Each-more (λ d. Each (λ x. d.line < x.line) (e ∷ [])) (λ d. d.line < e.line) (λ d k. k.0) es h
+
+event_below : (behind : ℕ → ℕ → Bool) (n : ℕ) (lag grain : ℤ) (taken : List Entry) (q : ℕ) (e : EventValue) → pos 1 ≤ℤ grain → q < n → is_closed q taken ≡ false → FromFiles n lag grain behind (taken ++ Given Stream q (item.Event e) ∷ []) → Below behind n lag grain taken (item.Event e)
+event_below behind n lag grain taken q e step inside going files = λ w reached below.
+    let es = queue_events q taken in
+    let stand : Each (StandsIn (files.files q)) (es ++ e ∷ []) = subst (Each (StandsIn (files.files q))) (own_event q taken e) (files.inside q inside) in
+    let order : EachPair (λ d x. d.line < x.line) (es ++ e ∷ []) = subst (EachPair (λ d x. d.line < x.line)) (own_event q taken e) (files.order q inside) in
+    told_at (λ x. is_behind lag grain (files.files q) x ≡ true → behind x.part x.line ≡ true) (files.files q) e (last_each (StandsIn (files.files q)) es e stand) (files.told q inside)
+    (stands_behind lag grain (files.files q) es e w step (Each-front (StandsIn (files.files q)) es (e ∷ []) stand) (before_last e es (EachPair-across (λ d x. d.line < x.line) es (e ∷ []) order)) (reached q inside going) below)
+
+item_below : (behind : ℕ → ℕ → Bool) (n : ℕ) (lag grain : ℤ) (taken : List Entry) (q : ℕ) (x : Item) → pos 1 ≤ℤ grain → q < n → is_closed q taken ≡ false → FromFiles n lag grain behind (taken ++ Given Stream q x ∷ []) → Below behind n lag grain taken x
+item_below behind n lag grain taken q (item.Event e) step inside going files = event_below behind n lag grain taken q e step inside going files
+item_below behind n lag grain taken q (item.Side s) step inside going files = λ w h. tt
+item_below behind n lag grain taken q (item.Frame f) step inside going files = λ w h. tt
+item_below behind n lag grain taken q (item.Row r) step inside going files = λ w h. tt
+item_below behind n lag grain taken q (item.Late l) step inside going files = λ w h. tt
+item_below behind n lag grain taken q (item.Mark m) step inside going files = λ w h. tt
+item_below behind n lag grain taken q item.Done step inside going files = λ w h. tt
+
+sound_passed : (behind : ℕ → ℕ → Bool) (n : ℕ) (lag grain : ℤ) (taken : List Entry) (entry : Entry) (given : List Item) → pos 1 ≤ℤ grain → Comes n taken entry → Each (IsPast n lag grain taken) given → FromFiles n lag grain behind (taken ++ entry ∷ []) → Sound behind given → Sound behind (given ++ passed entry)
+sound_passed behind n lag grain taken (Given Stream q x) given step comes past files s =
+    record {
+      after = pairs_push (SoundAfter behind) given x s.after (Each-more (IsPast n lag grain taken) (λ y. SoundAfter behind y x) (sound_past behind n lag grain taken x (item_below behind n lag grain taken q x step comes.0 comes.2 files)) given past);
+      lates = Each-append (LateIsBehind behind) given (x ∷ []) s.lates (late_not behind x (Each-back IsNotLate (items_of taken) (x ∷ []) (subst (Each IsNotLate) (items_next taken (Given Stream q x)) files.no_late)).0, tt);
+    }
+sound_passed behind n lag grain taken (Given Build q x) given step comes past files s = absurd comes
+sound_passed behind n lag grain taken (Told t) given step comes past files s = subst (Sound behind) (sym (append-nil given)) s
+sound_passed behind n lag grain taken (Closed port q) given step comes past files s = subst (Sound behind) (sym (append-nil given)) s
+sound_passed behind n lag grain taken Finish given step comes past files s = subst (Sound behind) (sym (append-nil given)) s
+
+above_any : (w : ℤ) (x : Item) → IsData x → IsNoResult x → IsAbove w x
+above_any w (item.Event e) h k = tt
+above_any w (item.Side s) h k = tt
+above_any w (item.Frame f) h k = absurd k
+above_any w (item.Row r) h k = absurd k
+above_any w (item.Late l) h k = tt
+above_any w (item.Mark m) h k = absurd h
+above_any w item.Done h k = tt
+
+closed_past : (n : ℕ) (lag grain : ℤ) (taken : List Entry) (x : Item) → ((w : ℤ) → IsReached n lag grain taken w → IsAbove w x) → (y : Item) → IsPast n lag grain taken y → ClosedAfter y x
+closed_past n lag grain taken x above (item.Event e) h = tt
+closed_past n lag grain taken x above (item.Side s) h = tt
+closed_past n lag grain taken x above (item.Frame f) h = tt
+closed_past n lag grain taken x above (item.Row r) h = tt
+closed_past n lag grain taken x above (item.Late l) h = tt
+closed_past n lag grain taken x above (item.Mark w) h = above w h
+closed_past n lag grain taken x above item.Done h = absurd h
+
+closed_push : (n : ℕ) (lag grain : ℤ) (taken : List Entry) (xs : List Item) (x : Item) → Each (IsPast n lag grain taken) xs → ((w : ℤ) → IsReached n lag grain taken w → IsAbove w x) → ClosedItems xs → ClosedItems (xs ++ x ∷ [])
+closed_push n lag grain taken xs x past above s =
+    record { after = pairs_push ClosedAfter xs x s.after (Each-more (IsPast n lag grain taken) (λ y. ClosedAfter y x) (closed_past n lag grain taken x above) xs past) }
+
+closed_passed : (n : ℕ) (lag grain : ℤ) (taken : List Entry) (entry : Entry) (given : List Item) → Comes n taken entry → Each (IsPast n lag grain taken) given → HasNoResults (taken ++ entry ∷ []) → ClosedItems given → ClosedItems (given ++ passed entry)
+closed_passed n lag grain taken (Given Stream q x) given comes past none s =
+    closed_push n lag grain taken given x past (λ w h. above_any w x comes.1 (Each-back IsNoResult (items_of taken) (x ∷ []) (subst (Each IsNoResult) (items_next taken (Given Stream q x)) none)).0) s
+closed_passed n lag grain taken (Given Build q x) given comes past none s = absurd comes
+closed_passed n lag grain taken (Told t) given comes past none s = subst ClosedItems (sym (append-nil given)) s
+closed_passed n lag grain taken (Closed port q) given comes past none s = subst ClosedItems (sym (append-nil given)) s
+closed_passed n lag grain taken Finish given comes past none s = subst ClosedItems (sym (append-nil given)) s
+
+closed_marks : (n : ℕ) (lag grain : ℤ) (before after : List Entry) (xs : List Item) (told : Option ℤ) → Rises n lag grain before after told → Each (IsPast n lag grain before) xs → ClosedItems xs → ClosedItems (xs ++ mark_items told)
+closed_marks n lag grain before after xs None r past s = subst ClosedItems (sym (append-nil xs)) s
+closed_marks n lag grain before after xs (Some t) r past s = closed_push n lag grain before xs (item.Mark t) past r.rose.1 s
+
+-- one entry more, with its item and then its mark
+pub stamped_next : (n : ℕ) (lag grain : ℤ) (taken : List Entry) (entry : Entry) (given : List Item) (told : Option ℤ) → pos 1 ≤ℤ grain → Comes n taken entry → Rises n lag grain taken (taken ++ entry ∷ []) told → Stamped n lag grain taken given → Stamped n lag grain (taken ++ entry ∷ []) ((given ++ passed entry) ++ mark_items told)
+stamped_next n lag grain taken entry given told step comes rises h =
+    let past : Each (IsPast n lag grain taken) (given ++ passed entry) = Each-append (IsPast n lag grain taken) given (passed entry) h.past (passed_past n lag grain taken taken entry comes) in
+    record {
+      bag = bag_next taken entry given told h.bag;
+      marks = marks_go_on n lag grain taken entry given told comes rises h.bag h.marks;
+      past =
+          Each-append (IsPast n lag grain (taken ++ entry ∷ [])) (given ++ passed entry) (mark_items told)
+          (Each-more (IsPast n lag grain taken) (IsPast n lag grain (taken ++ entry ∷ [])) (past_next n lag grain taken entry step) (given ++ passed entry) past)
+          (marks_past n lag grain taken (taken ++ entry ∷ []) told rises);
+      sound = λ behind files.
+          sound_marks behind (given ++ passed entry) told
+          (sound_passed behind n lag grain taken entry given step comes h.past files (h.sound behind (files_before n lag grain behind taken entry files)));
+      closed = λ none.
+          closed_marks n lag grain taken (taken ++ entry ∷ []) (given ++ passed entry) told rises past
+          (closed_passed n lag grain taken entry given comes h.past none (h.closed (results_before taken entry none)));
+    }

@@ -1,0 +1,38 @@
+use Rattle.std.proofs.Common.{rules, ◌≡◌, true, false, None, Ok, sym, subst}
+use Rattle.std.specs.Prelude.{is_some}
+use Rattle.jet_boxes.specs.declared.port.Port.{Port}
+use Rattle.jet_boxes.specs.declared.port.Port.TheVariants.{Stream}
+use Rattle.jet_boxes.specs.Entry.{Given}
+use Rattle.jet_boxes.specs.Calls.{Call}
+use Rattle.jet_stages.specs.declared.stamp.Stamp.{Stamp}
+use Rattle.jet_stages.specs.Stamping.{Stands, Amid, Same}
+use Rattle.jet_stages.proofs.Stamps.{Ready, ready, item_comes, call_begins, call_goes_on, none_by, some_by, count_stays}
+use Rattle.jet_stages.proofs.stamp.StampProcessor.accept.Goals as goal
+
+pub returns-then-is_some : goal.returns-then-is_some
+returns-then-is_some c =
+    let p = c.args.self.now in
+    let some : is_some p.owed ≡ true = search rules in
+    let owed = some_by p.owed some in
+    call_goes_on p c.settle.new.self (Given c.args._port c.args.queue c.args.item.now) c.args.out.now c.settle.new.out owed.0 c.settle.result owed.1 c.settle.ensures.settled c.settle.ensures.waits
+
+pub note-self-requires-clause-going : goal.note-self-requires-clause-going
+note-self-requires-clause-going c =
+    let p = c.args.self.now in
+    let none : is_some p.owed ≡ false = search rules in
+    let may = c.requires.3 in
+    (ready p c.args._port c.args.queue c.requires.0 (Given c.args._port c.args.queue c.args.item.now) c.requires.1 (none_by p.owed none) c.requires.2 may.1.0 may.1.1 may.3).going
+
+pub returns : goal.returns
+returns c =
+    let p = c.args.self.now in
+    let x = c.args.item.now in
+    let none : is_some p.owed ≡ false = search rules in
+    let no_mark : p.owed ≡ None = none_by p.owed none in
+    let may = c.requires.3 in
+    let open_queue : Ready p c.args.queue = ready p c.args._port c.args.queue c.requires.0 (Given c.args._port c.args.queue x) c.requires.1 no_mark c.requires.2 may.1.0 may.1.1 may.3 in
+    let q : Stamp = record c.note-self.new.self { owed = c.note-self.result } in
+    let fits : c.put.result ≡ true = search rules in
+    subst (λ (port : Port). Call Stands Amid Same true p (Given port c.args.queue x) c.args.out.now (Ok c.settle-2.result) c.settle-2.new.self c.settle-2.new.out) (sym may.1.0)
+    (call_begins p q c.settle-2.new.self (Given Stream c.args.queue x) c.args.out.now c.put.new.out c.settle-2.new.out c.settle-2.result no_mark may.2 (item_comes p c.args.queue x open_queue may.2) (c.note-self.ensures.settings.0, c.note-self.ensures.settings.1) c.note-self.ensures.notes
+    (count_stays p q c.requires.0 (Given Stream c.args.queue x) c.requires.1 no_mark (subst (λ (port : Port). Amid p c.requires.0 (Given port c.args.queue x) c.requires.1) may.1.0 c.requires.2) c.note-self.ensures.notes) (c.put.ensures.put fits) c.settle-2.ensures.settled c.settle-2.ensures.waits)

@@ -1,0 +1,14 @@
+pub mod Calls
+pub mod Filter
+pub mod FilterLaws
+pub mod Flat
+pub mod FlatLaws
+pub mod Map
+pub mod MapLaws
+pub mod Placing
+pub mod Running
+pub mod Stage
+pub mod StageLaws
+pub mod Stamp
+pub mod Stamping
+pub mod StampLaws
