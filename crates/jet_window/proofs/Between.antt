@@ -1,13 +1,13 @@
 -- Rows between marks, put together.
-use Rattle.std.proofs.Common.{◌≡◌, ℕ, ◌<◌, Bool, true, false, cond, ◌&&◌, List, [], ◌∷◌, ◌++◌, filter, length, get_or, map, refl, sym, ◌∙◌, ap, subst, arith, ℤ, ◌-ℤ◌, ◌+ℤ◌, ◌≤ℤ◌, ◌<ℤ◌, Option, Some, None}
+use Rattle.std.proofs.Common.{◌≡◌, Bool, true, false, cond, ◌&&◌, List, [], ◌∷◌, ◌++◌, filter, get_or, map, refl, sym, ap, subst, arith, ℤ, ◌-ℤ◌, ◌≤ℤ◌, ◌<ℤ◌, Option, Some, None}
 use Rattle.std.specs.Prelude.{IfSome, int_le, int_lt, bytes_eq, All, Any}
 use Rattle.std.specs.Bool.{Decides}
-use Rattle.std.specs.List.{AllByRecursion, Contains}
+use Rattle.std.specs.List.{AllByRecursion}
 use Rattle.std.specs.Option.{option_map_or}
 use Rattle.std.specs.List.Sorted.{IsStrictlySortedBy}
 use Rattle.std.specs.Ordering.{int_cmp, ordering_then}
 use Rattle.std.specs.declared.cmp.Ordering.{Ordering}
-use Rattle.std.specs.declared.cmp.Ordering.TheVariants.{Less, Equal, Greater}
+use Rattle.std.specs.declared.cmp.Ordering.TheVariants.{Less}
 use Rattle.std.proofs.lemmas.Bool.Decides.{Decides-and}
 use Rattle.std.proofs.lemmas.Int.{ints, by_lt_z}
 use Rattle.std.proofs.lemmas.List.Elements.{All-weaker, All-push, All-append, All-cons, All-nil, recursion_from_All, Contains-append_left, Contains-append_right}
@@ -53,10 +53,10 @@ unfolding IsStrictlySortedBy
 sorted-append c [] ys h k m = k
 sorted-append c (x ∷ xs) ys h k m = (AllBy-append (λ y. c x y ≡ Less) xs ys h.0 m.0, sorted-append c xs ys h.1 k m.1)
 
-any_left : {X : Type 0} (P : X → Type 0) (xs ys : List X) → Any P xs → Any P (xs ++ ys)
+pub any_left : {X : Type 0} (P : X → Type 0) (xs ys : List X) → Any P xs → Any P (xs ++ ys)
 any_left P xs ys (k, x, lt, is, p) = let at = Contains-append_left xs ys x (k, lt, is) in (at.0, x, at.1, at.2, p)
 
-any_right : {X : Type 0} (P : X → Type 0) (xs ys : List X) → Any P ys → Any P (xs ++ ys)
+pub any_right : {X : Type 0} (P : X → Type 0) (xs ys : List X) → Any P ys → Any P (xs ++ ys)
 any_right P xs ys (k, x, lt, is, p) = let at = Contains-append_right xs ys x (k, lt, is) in (at.0, x, at.1, at.2, p)
 
 filter_skip : {X : Type 0} (p : X → Bool) (xs : List X) (x : X) → p x ≡ false → filter p (xs ++ x ∷ []) ≡ filter p xs

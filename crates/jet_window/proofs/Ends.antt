@@ -1,10 +1,10 @@
 -- The first and the last due end of an event, and whether a window of it is open.
-use Rattle.std.proofs.Common.{◌≡◌, ℕ, Bool, true, false, cond, List, [], ◌∷◌, ◌++◌, filter, refl, sym, ◌∙◌, ap, subst, arith, ℤ, pos, ◌+ℤ◌, ◌-ℤ◌, ◌≤ℤ◌, ◌<ℤ◌, Option, Some, None}
-use Rattle.std.specs.Prelude.{IfSome, int_lt}
+use Rattle.std.proofs.Common.{◌≡◌, true, List, [], ◌∷◌, ◌++◌, filter, refl, sym, ◌∙◌, ap, arith, ℤ, ◌+ℤ◌, ◌≤ℤ◌, ◌<ℤ◌, Option, Some, None}
+use Rattle.std.specs.Prelude.{IfSome}
 use Rattle.std.specs.Int.{int_min}
 use Rattle.std.proofs.lemmas.Int.{ints, clamps}
 use Rattle.std.proofs.lemmas.List.Elements.{filter-append}
-use Rattle.jet_items.specs.Grid.{IsMultiple, IsFrameEnd, floor_to}
+use Rattle.jet_items.specs.Grid.{IsFrameEnd, floor_to}
 use Rattle.jet_items.specs.Values.{EventValue}
 use Rattle.jet_items.proofs.GridLemmas.{rem_bounds}
 use Rattle.jet_policy.specs.Policy.{IsPolicy}

@@ -1,13 +1,12 @@
 -- What a table of rows knows after an event's value was joined in, at one end and at all of its due ends.
-use Rattle.std.proofs.Common.{◌≡◌, ℕ, Bool, true, false, cond, ◌&&◌, List, [], ◌∷◌, ◌++◌, map, refl, sym, ◌∙◌, ap, subst, arith, ℤ, pos, ◌+ℤ◌, ◌-ℤ◌, ◌≤ℤ◌, ◌<ℤ◌, Option, Some, None}
-use Rattle.std.specs.Prelude.{IfSome, int_le, int_lt, bytes_eq}
+use Rattle.std.proofs.Common.{◌≡◌, ℕ, Bool, true, false, ◌&&◌, List, [], ◌∷◌, ◌++◌, refl, sym, ◌∙◌, ap, subst, arith, ℤ, pos, ◌+ℤ◌, ◌-ℤ◌, ◌≤ℤ◌, ◌<ℤ◌, Option, Some, None}
+use Rattle.std.specs.Prelude.{IfSome, int_le, bytes_eq}
 use Rattle.std.specs.Bool.{Decides}
 use Rattle.std.specs.BTreeMap.{BTreeMap, get, Updates}
 use Rattle.std.specs.Cmp.{IsTotalOrder, Equal-is}
 use Rattle.std.specs.Cmp.Lexicographic.{slice_cmp, nat_list_cmp_total}
 use Rattle.std.specs.Int.{int_rem_euclid}
-use Rattle.std.specs.Ordering.{is_eq, int_eq, int_cmp, nat_cmp}
-use Rattle.std.specs.declared.cmp.Ordering.TheVariants.{Equal}
+use Rattle.std.specs.Ordering.{is_eq, int_cmp, nat_cmp}
 use Rattle.std.proofs.lemmas.Bool.Decides.{Decides-and, Decides-int_eq, Decides-like, same_from_decides}
 use Rattle.std.proofs.lemmas.Cmp.{then_total, on_total, int_cmp_total, tied_itself}
 use Rattle.std.proofs.lemmas.Int.{ints, by_lt_z}
@@ -15,13 +14,13 @@ use Rattle.std.proofs.lemmas.Map.Lookups.{exact_pairs, exact_signed, exact_bytes
 use Rattle.std.proofs.lemmas.Slice.Eq.{bytes_eq-Decides}
 use Rattle.jet_items.specs.Grid.{IsMultiple, floor_to, in_window}
 use Rattle.jet_items.specs.Rows.{first_value}
-use Rattle.jet_items.specs.Totals.{joined, one, both, total}
+use Rattle.jet_items.specs.Totals.{one, both, total}
 use Rattle.jet_items.specs.Values.{EventValue, AccValue, RowValue}
 use Rattle.jet_items.proofs.GridLemmas.{floor_is, rem_bounds, multiple_apart}
 use Rattle.jet_items.proofs.Totaling.{both_none, total-append}
 use Rattle.jet_window.specs.Plain.{is_between}
 use Rattle.jet_window.specs.Tables.{Place, place_cmp, with_row, row_of, IsTable, only, is_multiple, stepped, brings, IsFirstEnd, IsLastDue}
-use Rattle.jet_window.proofs.Between.{Decides-int_le, Decides-int_lt, Decides-in_window, Decides-is_between, false_from}
+use Rattle.jet_window.proofs.Between.{Decides-int_le, Decides-in_window, Decides-is_between, false_from}
 
 pub place_total : IsTotalOrder place_cmp
 place_total = then_total (on_total (λ (p : Place). p.0) int_cmp_total) (on_total (λ (p : Place). p.1) nat_list_cmp_total)

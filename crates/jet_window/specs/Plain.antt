@@ -1,5 +1,5 @@
 -- What contracts see of a plain window, and the rows that it closes.
-use Rattle.std.specs.Prelude.{◌≡◌, ℕ, Bool, true, ◌&&◌, ℤ, ◌+ℤ◌, ◌≤ℤ◌, int_le, int_lt, List, [], ◌++◌, filter, All, Option, Some, None, IfSome}
+use Rattle.std.specs.Prelude.{◌≡◌, ℕ, Bool, true, ◌&&◌, ℤ, ◌+ℤ◌, int_le, int_lt, List, [], filter, All, Option, Some, None}
 use Rattle.std.specs.Option.{option_map_or}
 use Rattle.std.specs.List.Sorted.{IsStrictlySortedBy}
 use Rattle.jet_items.specs.Grid.{IsEndFor, floor_to}

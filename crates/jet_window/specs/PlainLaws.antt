@@ -1,6 +1,6 @@
 -- What follows of the rows between marks, for a loop that reads events and closes windows.
 use Rattle.std.specs.Prelude.{ℤ, ◌≤ℤ◌, List, [], ◌∷◌, ◌++◌, Option, Some, None, IfSome}
-use Rattle.jet_items.specs.Rows.{Window, Inflow, AreRows}
+use Rattle.jet_items.specs.Rows.{Window, AreRows}
 use Rattle.jet_items.specs.Values.{EventValue, RowValue}
 use Rattle.jet_window.specs.Plain.{RowsBetween, RowsUpTo}
 

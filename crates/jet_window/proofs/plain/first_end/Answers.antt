@@ -1,8 +1,8 @@
-use Rattle.std.proofs.Common.{rules, arith, ◌≡◌, ℤ, Option, Some, None, sym, subst, ◌∙◌, ap, FitsSigned, to_z, of_z, w64, to_z-of_z, ◌≤ℤ◌, ◌<ℤ◌}
+use Rattle.std.proofs.Common.{rules, arith, ◌≡◌, ℤ, Option, Some, sym, subst, ◌∙◌, ap, FitsSigned, w64, to_z-of_z, ◌≤ℤ◌}
 use Rattle.std.proofs.lemmas.Int.{ints}
 use Rattle.jet_items.specs.Grid.{IsFrameEnd}
 use Rattle.jet_window.specs.Tables.{IsFirstEnd}
-use Rattle.jet_window.proofs.Ends.{first_alone, first_below, first_above}
+use Rattle.jet_window.proofs.Ends.{first_above}
 use Rattle.jet_window.proofs.plain.first_end.Goals as goal
 
 pub returns : goal.returns

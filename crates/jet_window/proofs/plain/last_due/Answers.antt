@@ -1,6 +1,6 @@
-use Rattle.std.proofs.Common.{rules, arith, ◌≡◌, ℤ, pos, ◌+ℤ◌, ◌≤ℤ◌, Option, Some, None, sym, subst, ap, ◌∙◌, FitsSigned, to_z, of_z, w64, to_z-of_z}
+use Rattle.std.proofs.Common.{rules, arith, ◌≡◌, ℤ, ◌+ℤ◌, Option, Some, None, sym, subst, ap, ◌∙◌, FitsSigned, to_z, of_z, w64, to_z-of_z}
 use Rattle.std.specs.Int.{int_min}
-use Rattle.std.proofs.lemmas.Int.{ints, clamps}
+use Rattle.std.proofs.lemmas.Int.{ints}
 use Rattle.jet_items.specs.Ranges.{IsWithin, most_time}
 use Rattle.jet_policy.specs.Policy.{IsPolicy}
 use Rattle.jet_window.specs.Tables.{IsLastDue}

@@ -1,4 +1,4 @@
-use Rattle.std.proofs.Common.{rules, arith, ◌≡◌, ℤ, ℕ, pos, ◌+ℤ◌, ◌-ℤ◌, ◌≤ℤ◌, ◌<ℤ◌, List, Option, Some, sym, subst, ap, ◌∙◌, slice_index_or, FitsSigned, to_z, of_z, w64, to_z-of_z}
+use Rattle.std.proofs.Common.{rules, arith, ◌≡◌, ℤ, pos, ◌+ℤ◌, ◌-ℤ◌, ◌≤ℤ◌, ◌<ℤ◌, Some, sym, subst, ap, ◌∙◌, slice_index_or, FitsSigned, to_z, of_z, w64, to_z-of_z}
 use Rattle.std.specs.BTreeMap.{get, Updates}
 use Rattle.std.proofs.lemmas.Int.{ints}
 use Rattle.jet_items.specs.Grid.{IsMultiple}
@@ -6,7 +6,7 @@ use Rattle.jet_items.specs.Ranges.{IsWithin, most_row_end}
 use Rattle.jet_items.specs.Rows.{first_value}
 use Rattle.jet_items.specs.Totals.{both, one}
 use Rattle.jet_items.specs.Values.{EventValue, AccValue, RowValue}
-use Rattle.jet_window.specs.Tables.{Place, place_cmp, with_row, stepped, IsTable}
+use Rattle.jet_window.specs.Tables.{place_cmp, with_row, stepped, IsTable}
 use Rattle.jet_window.proofs.Stepping.{table_step, table_same, step_first, step_last}
 use Rattle.jet_window.proofs.Walking.{end_within, end_next, multiple_next, nearer}
 use Rattle.jet_window.proofs.table.add_event.Goals as goal

@@ -1,4 +1,4 @@
-use Rattle.std.proofs.Common.{rules, ◌≡◌, ap, sym, subst, refl, ◌∙◌}
+use Rattle.std.proofs.Common.{rules, ap, refl, ◌∙◌}
 use Rattle.std.specs.Prelude.{List, position}
 use Rattle.jet_items.specs.Values.{RowValue}
 use Rattle.jet_window.specs.Held.{Held}

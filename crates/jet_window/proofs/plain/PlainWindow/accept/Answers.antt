@@ -1,6 +1,5 @@
-use Rattle.std.proofs.Common.{rules, ◌≡◌, ◌≤ℤ◌, ℤ, List, Option, ap, sym, subst, ◌∙◌}
+use Rattle.std.proofs.Common.{◌≤ℤ◌, sym, subst}
 use Rattle.std.specs.Prelude.{IfSome}
-use Rattle.jet_items.specs.Values.{EventValue}
 use Rattle.jet_window.specs.Plain.{PlainValue, HasTaken}
 use Rattle.jet_window.proofs.Ends.{open_now, taken_more}
 use Rattle.jet_window.proofs.plain.PlainWindow.accept.Goals as goal

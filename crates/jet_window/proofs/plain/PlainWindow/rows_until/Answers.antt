@@ -1,4 +1,4 @@
-use Rattle.std.proofs.Common.{◌≡◌, ℕ, ℤ, List, sym, subst}
+use Rattle.std.proofs.Common.{◌≡◌, ℕ, List, sym, subst}
 use Rattle.std.specs.BTreeMap.{values, IsOrdered}
 use Rattle.jet_items.specs.Values.{EventValue, RowValue}
 use Rattle.jet_policy.specs.Policy.{IsPolicy}

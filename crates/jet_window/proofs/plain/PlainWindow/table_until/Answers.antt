@@ -1,5 +1,4 @@
-use Rattle.std.proofs.Common.{rules, arith, ◌≡◌, ◌+◌, ◌<◌, ℕ, ℤ, pos, ◌≤ℤ◌, List, Option, Some, take, length, get_or, sym, subst, ap, ◌∙◌, FitsSigned, to_z, of_z, w64, to_z-of_z}
-use Rattle.std.proofs.lemmas.Int.{ints}
+use Rattle.std.proofs.Common.{rules, ◌≡◌, ◌+◌, ◌<◌, ℕ, ℤ, List, Option, take, length, get_or, sym, subst, ap, ◌∙◌, FitsSigned, to_z, of_z, w64, to_z-of_z}
 use Rattle.jet_items.specs.Grid.{IsMultiple}
 use Rattle.jet_items.specs.Totals.{both, total}
 use Rattle.jet_items.specs.Values.{EventValue, AccValue}

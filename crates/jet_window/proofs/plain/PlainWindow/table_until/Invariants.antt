@@ -1,4 +1,4 @@
-use Rattle.std.proofs.Common.{◌≡◌, ℤ, List, take}
+use Rattle.std.proofs.Common.{◌≡◌, take}
 use Rattle.jet_items.specs.Totals.{total}
 use Rattle.jet_window.specs.Tables.{IsTable, brings}
 use Rattle.jet_window.proofs.plain.PlainWindow.table_until.Given as goal

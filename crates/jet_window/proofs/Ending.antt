@@ -1,0 +1,156 @@
+-- Window ends above a time.
+use Rattle.std.proofs.Common.{◌≡◌, ℕ, Bool, true, false, cond, ℤ, pos, ◌+ℤ◌, ◌-ℤ◌, ◌<ℤ◌, ◌≤ℤ◌, List, [], ◌∷◌, Option, Some, None, refl, sym, ◌∙◌, subst, arith, ◌&&◌}
+use Rattle.std.specs.Prelude.{int_le, int_lt, bytes_eq, slice_get, length, ◌<◌, IsSome, IfSome}
+use Rattle.std.specs.declared.cmp.Ordering.{Ordering}
+use Rattle.std.specs.declared.cmp.Ordering.TheVariants.{Less, Equal, Greater}
+use Rattle.std.specs.Cmp.Lexicographic.{slice_cmp}
+use Rattle.jet_items.proofs.Orders.{Each-more}
+use Rattle.jet_items.specs.Ranges.{IsWithin, most_frame_end}
+use Rattle.std.specs.Int.{int_rem_euclid}
+use Rattle.std.specs.Ordering.{nat_cmp, ordering_then}
+use Rattle.std.proofs.lemmas.Int.{ints, by_lt_z}
+use Rattle.std.proofs.lemmas.Bool.Decides.{Decides-int_eq}
+use Rattle.jet_items.specs.Grid.{IsMultiple, IsFrameEnd, IsFloor, floor_to}
+use Rattle.jet_items.proofs.GridLemmas.{floor_is, rem_bounds}
+use Rattle.jet_items.proofs.Covering.{Decides-int_lt, Decides-int_le, Decides-covers, false_from, not_so}
+use Rattle.jet_items.specs.Values.{AccValue}
+use Rattle.jet_items.specs.Totals.{total}
+use Rattle.jet_items.specs.Frames.{only, covers}
+use Rattle.jet_items.specs.Order.{Each}
+use Rattle.jet_window.specs.Tables.{Place, place_cmp}
+use Rattle.jet_window.specs.FrameTables.{Table, held_in, Ordered, IsKept}
+use Rattle.jet_window.specs.Tables.{is_multiple}
+use Rattle.jet_window.specs.Taken.{is_due}
+use Rattle.jet_window.specs.Combining.{Forgets}
+use Rattle.jet_window.specs.NextEnds.{IsEndAbove, IsNextEnd}
+
+-- the test and the fact
+pub multiple_test : (slide e : ℤ) → pos 1 ≤ℤ slide → IsMultiple slide e → is_multiple slide e ≡ true
+multiple_test slide e low h =
+    let floor : IsFloor slide e (floor_to slide e) = floor_is slide e low in
+    let bounds = rem_bounds e slide low in
+    let le : e ≤ℤ floor_to slide e = floor.greatest e h (omega (arith, ints)) in
+    (Decides-int_eq (int_rem_euclid e slide) (pos 0)).1 (omega (arith, ints, bounds))
+
+pub multiple_fact : (slide e : ℤ) → pos 1 ≤ℤ slide → is_multiple slide e ≡ true → IsMultiple slide e
+multiple_fact slide e low h =
+    let floor : IsFloor slide e (floor_to slide e) = floor_is slide e low in
+    let none : int_rem_euclid e slide ≡ pos 0 = (Decides-int_eq (int_rem_euclid e slide) (pos 0)).0 h in
+    let is : floor_to slide e ≡ e = omega (arith, ints) in
+    subst (IsMultiple slide) is floor.multiple
+
+pub due_false : (p e : ℤ) → p <ℤ e → int_le e p ≡ false
+due_false p e h = false_from (int_le e p) (Decides-int_le e p) (λ le. absurd (omega (arith, ints)))
+
+due_false_fact : (p e : ℤ) → int_le e p ≡ false → p <ℤ e
+due_false_fact p e h = by_lt_z p e (λ lt. lt) (λ le. absurd (not_so (int_le e p) (Decides-int_le e p) h le))
+
+pub above_passed : (slide end p e : ℤ) → pos 1 ≤ℤ slide → IsFrameEnd slide p e → end ≤ℤ p → IsEndAbove slide (Some p) end e
+above_passed slide end p e low f le =
+    let above : p <ℤ e = f.above in
+    record {
+      multiple = multiple_test slide e low f.multiple;
+      later = due_false p e above;
+      at_least = omega (arith, ints);
+      least = λ d m b k. f.least d (multiple_fact slide d low m) (due_false_fact p d b);
+    }
+
+pub above_end : (slide : ℤ) (passed : Option ℤ) (end e : ℤ) → pos 1 ≤ℤ slide → IsFrameEnd slide (end -ℤ pos 1) e → is_due passed end ≡ false → IsEndAbove slide passed end e
+above_end slide passed end e low f later =
+    let above : (end -ℤ pos 1) <ℤ e = f.above in
+    record {
+      multiple = multiple_test slide e low f.multiple;
+      later = not_due passed later;
+      at_least = omega (arith, ints);
+      least = λ d m b k. f.least d (multiple_fact slide d low m) (omega (arith, ints));
+    }
+  where
+    not_due : (o : Option ℤ) → is_due o end ≡ false → is_due o e ≡ false
+    not_due None h = refl
+    not_due (Some p) h = let lt : p <ℤ end = due_false_fact p end h in let above : (end -ℤ pos 1) <ℤ e = f.above in due_false p e (omega (arith, ints))
+
+-- a frame whose windows have all passed brings nothing to an open one
+stale : (size slide : ℤ) (passed : Option ℤ) (end e d : ℤ) (b : Bool) (a : AccValue) → IsEndAbove slide passed end e → (end +ℤ size) ≤ℤ e → is_multiple slide d ≡ true → is_due passed d ≡ false → only (b && covers size d end) a ≡ None
+stale size slide passed end e d b a up le m due =
+    rw (false_from (covers size d end) (Decides-covers size d end) (λ c. let p = c.0 in let q = c.1 in let low : e ≤ℤ d = up.least d m due q in absurd (omega (arith, ints)))) (none b)
+  where
+    none : (b : Bool) → only (b && false) a ≡ None
+    none true = refl
+    none false = refl
+
+pub forget_first : (size slide : ℤ) (passed : Option ℤ) (f : Place × AccValue) (fs : Table) (e : ℤ) → IsEndAbove slide passed f.0.0 e → (f.0.0 +ℤ size) ≤ℤ e → Forgets size slide passed (f ∷ fs) fs
+forget_first size slide passed f fs e up le = record {
+  leaves = λ d key m b. rw (stale size slide passed f.0.0 e d (bytes_eq f.0.1 key) f.1 up le m b) refl;
+  kept = λ h. record { ordered = h.ordered.1; ranges = h.ranges.1 };
+}
+
+pub Forgets-refl : (size slide : ℤ) (passed : Option ℤ) (held : Table) → Forgets size slide passed held held
+Forgets-refl size slide passed held = record { leaves = λ d key m b. refl; kept = λ h. h }
+
+pub Forgets-trans : (size slide : ℤ) (passed : Option ℤ) (a b c : Table) → Forgets size slide passed a b → Forgets size slide passed b c → Forgets size slide passed a c
+Forgets-trans size slide passed a b c h k = record { leaves = λ d key m n. k.leaves d key m n ∙ h.leaves d key m n; kept = λ x. k.kept (h.kept x) }
+
+-- below the first end no window has a frame
+pub none_below : (size d : ℤ) (key : List ℕ) (held : Table) → Each (λ (f : Place × AccValue). d <ℤ f.0.0) held → total (held_in size d key) held ≡ None
+none_below size d key [] h = refl
+none_below size d key (f ∷ fs) h =
+    rw (false_from (covers size d f.0.0) (Decides-covers size d f.0.0) (λ c. let q = c.1 in let lt : d <ℤ f.0.0 = h.0 in absurd (omega (arith, ints)))) (rw (none (bytes_eq f.0.1 key) f.1) (none_below size d key fs h.1))
+  where
+    none : (b : Bool) (a : AccValue) → only (b && false) a ≡ None
+    none true a = refl
+    none false a = refl
+
+-- ---- the first entry of a table
+pub first_each : (P : Place × AccValue → Type 0) (table : Table) (f : Place × AccValue) → slice_get table 0 ≡ Some f → Each P table → P f
+first_each P [] f h k = absurd (none_some h)
+  where
+    none_some : None ≡ Some f → ⊥
+    none_some e = absurd (cc)
+first_each P (g ∷ gs) f h k = subst P (some_is h) k.0
+  where
+    some_is : Some g ≡ Some f → g ≡ f
+    some_is e = cc
+
+less_if : (b c : Bool) (x y : ℤ) (o : Ordering) → int_lt x y ≡ b → int_lt y x ≡ c → ordering_then (cond b Less (cond c Greater Equal)) o ≡ Less → x ≤ℤ y
+less_if true c x y o p q h = let k : x <ℤ y = (Decides-int_lt x y).0 p in omega (arith, ints)
+less_if false true x y o p q h = absurd (cc)
+less_if false false x y o p q h = by_lt_z y x (λ gt. absurd (not_so (int_lt y x) (Decides-int_lt y x) q gt)) (λ le. le)
+
+pub place_less : (x y : Place) → place_cmp x y ≡ Less → x.0 ≤ℤ y.0
+place_less x y h = less_if (int_lt x.0 y.0) (int_lt y.0 x.0) x.0 y.0 (slice_cmp nat_cmp x.1 y.1) refl refl h
+
+-- above the first end all ends are
+pub above_first : (d : ℤ) (held : Table) (f : Place × AccValue) → slice_get held 0 ≡ Some f → Ordered held → d <ℤ f.0.0 → Each (λ (g : Place × AccValue). d <ℤ g.0.0) held
+above_first d [] f h k lt = tt
+above_first d (g ∷ gs) f h k lt =
+    let is : g ≡ f = cc in
+    let here : d <ℤ g.0.0 = subst (λ (z : Place × AccValue). d <ℤ z.0.0) (sym is) lt in
+    (here, Each-more (λ (z : Place × AccValue). place_cmp g.0 z.0 ≡ Less) (λ (z : Place × AccValue). d <ℤ z.0.0) (λ z m. let le : g.0.0 ≤ℤ z.0.0 = place_less g.0 z.0 m in omega (arith, ints)) gs k.0)
+
+pub next_end_is : (size slide : ℤ) (passed : Option ℤ) (held : Table) (f : Place × AccValue) (e : ℤ) → slice_get held 0 ≡ Some f → IsKept held → IsEndAbove slide passed f.0.0 e → e <ℤ (f.0.0 +ℤ size) → size ≤ℤ pos 1000000000000 → IsNextEnd size slide passed held e
+next_end_is size slide passed held f e first kept up lt most =
+    let range : IsWithin most_frame_end f.0.0 = first_each (λ (g : Place × AccValue). IsWithin most_frame_end g.0.0) held f first kept.ranges in
+    let low : f.0.0 ≤ℤ e = up.at_least in
+    let a = range.0 in
+    let b = range.1 in
+    record {
+      multiple = up.multiple;
+      later = up.later;
+      skips = λ d key m n below.
+          let under : d <ℤ f.0.0 = by_lt_z d f.0.0 (λ k. k) (λ k. let le : e ≤ℤ d = up.least d m n k in absurd (omega (arith, ints))) in
+          none_below size d key held (above_first d held f first kept.ordered under);
+      range = (omega (arith, ints), omega (arith, ints));
+      low = omega (arith, ints);
+    }
+
+-- what is taken out in front is the first entry
+pub popped : (held new : Table) (r : Option (Place × AccValue)) (f : Place × AccValue) → slice_get held 0 ≡ Some f → (0 < length held → IsSome r) → IfSome r (λ p. held ≡ p ∷ new) → held ≡ f ∷ new
+popped [] new r f h v k = absurd (none_some h)
+  where
+    none_some : None ≡ Some f → ⊥
+    none_some e = absurd (cc)
+popped (g ∷ gs) new None f h v k = absurd (not_true (v (omega arith)))
+  where
+    not_true : false ≡ true → ⊥
+    not_true e = absurd (cc)
+popped (g ∷ gs) new (Some p) f h v k = cc

@@ -1,0 +1,252 @@
+-- Windows that are taken up, times that pass, frames that are taken and forgotten: each keeps the rows and the held frames right.
+use Rattle.std.proofs.Common.{◌≡◌, ℕ, Bool, true, false, cond, ◌&&◌, ℤ, ◌<ℤ◌, ◌≤ℤ◌, List, [], ◌∷◌, ◌++◌, map, Option, Some, None, refl, sym, ◌∙◌, ap, subst, arith, append-nil}
+use Rattle.std.specs.Prelude.{int_le, int_lt, bytes_eq}
+use Rattle.std.specs.Ordering.{int_eq, nat_cmp, int_cmp, ordering_then}
+use Rattle.std.specs.Cmp.Lexicographic.{slice_cmp}
+use Rattle.std.specs.declared.cmp.Ordering.{Ordering}
+use Rattle.std.specs.declared.cmp.Ordering.TheVariants.{Less}
+use Rattle.std.proofs.lemmas.Int.{ints, by_lt_z}
+use Rattle.std.proofs.lemmas.Bool.Decides.{Decides-int_eq}
+use Rattle.std.proofs.lemmas.List.Concat.{flat_map-append}
+use Rattle.jet_items.specs.Values.{AccValue, FrameValue, RowValue}
+use Rattle.jet_items.specs.Totals.{both, total}
+use Rattle.jet_items.specs.Frames.{only, covers, frame_in}
+use Rattle.jet_items.specs.Order.{Each, EachPair}
+use Rattle.jet_items.proofs.Orders.{Each-append, Each-more, EachPair-append}
+use Rattle.jet_items.proofs.Totaling.{both_none, both_comm, total-append}
+use Rattle.jet_items.proofs.Covering.{Decides-int_lt, Decides-int_le, Decides-covers, false_from, not_so}
+use Rattle.jet_window.specs.FrameTables.{Table, held_in}
+use Rattle.jet_window.specs.Tables.{is_multiple}
+use Rattle.jet_window.specs.Taken.{is_due}
+use Rattle.jet_window.specs.WindowRows.{as_list, row_at, rows_at, Rises}
+use Rattle.jet_window.specs.Combining.{row_of, accs_at, Fits, TakesUp, Clear, Passes, Forgets}
+
+-- ---- what is due
+pub due_more : (passed : Option ℤ) (e d : ℤ) → is_due passed e ≡ false → is_due passed d ≡ true → d <ℤ e
+due_more None e d h k = absurd (cc)
+due_more (Some p) e d h k =
+    let le : d ≤ℤ p = (Decides-int_le d p).0 k in
+    by_lt_z d e (λ lt. lt) (λ above. absurd (not_so (int_le e p) (Decides-int_le e p) h (omega (arith, ints))))
+
+not_due_above : (passed : Option ℤ) (e d : ℤ) → is_due passed e ≡ false → e ≤ℤ d → is_due passed d ≡ false
+not_due_above None e d h k = refl
+not_due_above (Some p) e d h k = false_from (int_le d p) (Decides-int_le d p) (λ le. not_so (int_le e p) (Decides-int_le e p) h (omega (arith, ints)))
+
+pub le_true : (a b : ℤ) → a ≤ℤ b → int_le a b ≡ true
+le_true a b h = (Decides-int_le a b).1 h
+
+le_false : (a b : ℤ) → b <ℤ a → int_le a b ≡ false
+le_false a b h = false_from (int_le a b) (Decides-int_le a b) (λ le. absurd (omega (arith, ints)))
+
+eq_false : (a b : ℤ) → a <ℤ b → (int_eq a b ≡ false) × (int_eq b a ≡ false)
+eq_false a b h = (false_from (int_eq a b) (Decides-int_eq a b) (λ e. absurd (omega (arith, ints))), false_from (int_eq b a) (Decides-int_eq b a) (λ e. absurd (omega (arith, ints))))
+
+-- ---- the rows of one window
+both_tests : (b c : Bool) (a : AccValue) → c ≡ true → as_list (only (b && c) a) ≡ as_list (only b a)
+both_tests true true a h = refl
+both_tests false c a h = refl
+both_tests true false a h = absurd (cc)
+
+no_test : (b c : Bool) (a : AccValue) → c ≡ false → as_list (only (b && c) a) ≡ []
+no_test true false a h = refl
+no_test false c a h = refl
+no_test true true a h = absurd (cc)
+
+ready_here : (vertex : ℕ) (e : ℤ) (key : List ℕ) (ready : List (List ℕ × AccValue)) → rows_at e key (map (row_of vertex e) ready) ≡ accs_at key ready
+ready_here vertex e key [] = refl
+ready_here vertex e key (p ∷ ps) =
+    ap (λ xs. xs ++ rows_at e key (map (row_of vertex e) ps)) (both_tests (bytes_eq p.0 key) (int_eq e e) p.1 ((Decides-int_eq e e).1 refl))
+    ∙ ap (λ xs. as_list (only (bytes_eq p.0 key) p.1) ++ xs) (ready_here vertex e key ps)
+
+ready_apart : (vertex : ℕ) (e d : ℤ) (key : List ℕ) (ready : List (List ℕ × AccValue)) → int_eq e d ≡ false → rows_at d key (map (row_of vertex e) ready) ≡ []
+ready_apart vertex e d key [] h = refl
+ready_apart vertex e d key (p ∷ ps) h =
+    ap (λ xs. xs ++ rows_at d key (map (row_of vertex e) ps)) (no_test (bytes_eq p.0 key) (int_eq e d) p.1 h) ∙ ready_apart vertex e d key ps h
+
+rows_split : (e : ℤ) (key : List ℕ) (xs ys : List RowValue) → rows_at e key (xs ++ ys) ≡ rows_at e key xs ++ rows_at e key ys
+rows_split e key xs ys = flat_map-append (λ r. as_list (row_at e key r)) xs ys
+
+false_pick : {X : Type 0} (b : Bool) (x y : X) → b ≡ false → cond b x y ≡ y
+false_pick true x y h = absurd (cc)
+false_pick false x y h = refl
+
+and_false : (b c : Bool) → c ≡ false → (b && c) ≡ false
+and_false true c h = h
+and_false false c h = refl
+
+-- ---- a window is taken up
+-- below the window nothing is new
+pub below_case : (m b : Bool) (t : Option AccValue) → (m ≡ true → b ≡ false → t ≡ None) → as_list (cond (m && b) t None) ≡ as_list (cond (m && true) t None)
+below_case true true t h = refl
+below_case true false t h = rw (h refl refl) refl
+below_case false b t h = refl
+
+up_each : (vertex : ℕ) (size slide : ℤ) (passed : Option ℤ) (held : Table) (frames : List FrameValue) (rows : List RowValue) (e : ℤ) (ready : List (List ℕ × AccValue)) (rest : Table)
+    → Fits vertex size slide passed held frames rows → TakesUp size slide passed held e ready rest
+    → (d : ℤ) (key : List ℕ) → rows_at d key (rows ++ map (row_of vertex e) ready) ≡ as_list (cond (is_multiple slide d && is_due (Some e) d) (total (frame_in size d key) frames) None)
+up_each vertex size slide passed held frames rows e ready rest fits up d key =
+    rows_split d key rows (map (row_of vertex e) ready) ∙ by_lt_z d e below (λ le. by_lt_z e d above (λ ge. here (omega (arith, ints))))
+  where
+    old : rows_at d key rows ≡ as_list (cond (is_multiple slide d && is_due passed d) (total (frame_in size d key) frames) None)
+    old = fits.rows_are.each d key
+
+    none : is_due passed d ≡ false → rows_at d key rows ≡ []
+    none h = old ∙ ap as_list (false_pick (is_multiple slide d && is_due passed d) (total (frame_in size d key) frames) None (and_false (is_multiple slide d) (is_due passed d) h))
+
+    below : d <ℤ e → rows_at d key rows ++ rows_at d key (map (row_of vertex e) ready) ≡ as_list (cond (is_multiple slide d && int_le d e) (total (frame_in size d key) frames) None)
+    below lt =
+        rw (ready_apart vertex e d key ready (eq_false d e lt).1)
+        (append-nil (rows_at d key rows) ∙ (old ∙ (below_case (is_multiple slide d) (is_due passed d) (total (frame_in size d key) frames) (λ m b. sym (fits.held_is d key m b) ∙ up.skips d key m b lt)
+        ∙ ap (λ b. as_list (cond (is_multiple slide d && b) (total (frame_in size d key) frames) None)) (sym (le_true d e (omega (arith, ints)))))))
+
+    above : e <ℤ d → rows_at d key rows ++ rows_at d key (map (row_of vertex e) ready) ≡ as_list (cond (is_multiple slide d && int_le d e) (total (frame_in size d key) frames) None)
+    above gt =
+        rw (ready_apart vertex e d key ready (eq_false e d gt).0)
+        (append-nil (rows_at d key rows) ∙ (none (not_due_above passed e d up.later (omega (arith, ints)))
+        ∙ ap as_list (sym (false_pick (is_multiple slide d && int_le d e) (total (frame_in size d key) frames) None (and_false (is_multiple slide d) (int_le d e) (le_false d e gt))))))
+
+    at_end : rows_at e key rows ++ rows_at e key (map (row_of vertex e) ready) ≡ as_list (cond (is_multiple slide e && int_le e e) (total (frame_in size e key) frames) None)
+    at_end =
+        rw (ready_here vertex e key ready) (rw (fits.rows_are.each e key ∙ ap as_list (false_pick (is_multiple slide e && is_due passed e) (total (frame_in size e key) frames) None (and_false (is_multiple slide e) (is_due passed e) up.later)))
+        (up.ready_is key ∙ (ap as_list (fits.held_is e key up.multiple up.later) ∙ (rw up.multiple (rw (le_true e e (omega (arith, ints))) refl)))))
+
+    here : e ≡ d → rows_at d key rows ++ rows_at d key (map (row_of vertex e) ready) ≡ as_list (cond (is_multiple slide d && int_le d e) (total (frame_in size d key) frames) None)
+    here is = subst (λ (z : ℤ). rows_at z key rows ++ rows_at z key (map (row_of vertex e) ready) ≡ as_list (cond (is_multiple slide z && int_le z e) (total (frame_in size z key) frames) None)) is at_end
+
+ready_vertices : (vertex : ℕ) (e : ℤ) (ready : List (List ℕ × AccValue)) → Each (λ (r : RowValue). r.vertex ≡ vertex) (map (row_of vertex e) ready)
+ready_vertices vertex e [] = tt
+ready_vertices vertex e (p ∷ ps) = (refl, ready_vertices vertex e ps)
+
+ready_within : (vertex : ℕ) (e : ℤ) (ready : List (List ℕ × AccValue)) → Each (λ (r : RowValue). int_le r.end e ≡ true) (map (row_of vertex e) ready)
+ready_within vertex e [] = tt
+ready_within vertex e (p ∷ ps) = (le_true e e (omega (arith, ints)), ready_within vertex e ps)
+
+less_then : (a b : ℤ) (o : Ordering) → a <ℤ b → ordering_then (int_cmp a b) o ≡ Less
+less_then a b o h = rw ((Decides-int_lt a b).1 h) refl
+
+same_then : (a : ℤ) (o : Ordering) → o ≡ Less → ordering_then (int_cmp a a) o ≡ Less
+same_then a o h = rw (false_from (int_lt a a) (Decides-int_lt a a) (λ lt. absurd (omega (arith, ints)))) h
+
+ready_rises : (vertex : ℕ) (e : ℤ) (ready : List (List ℕ × AccValue)) → EachPair (λ (a b : List ℕ × AccValue). slice_cmp nat_cmp a.0 b.0 ≡ Less) ready → EachPair Rises (map (row_of vertex e) ready)
+ready_rises vertex e [] h = tt
+ready_rises vertex e (p ∷ ps) h = (each p ps h.0, ready_rises vertex e ps h.1)
+  where
+    each : (p : List ℕ × AccValue) (ps : List (List ℕ × AccValue)) → Each (λ (b : List ℕ × AccValue). slice_cmp nat_cmp p.0 b.0 ≡ Less) ps → Each (Rises (row_of vertex e p)) (map (row_of vertex e) ps)
+    each p [] h = tt
+    each p (q ∷ qs) h = (same_then e (slice_cmp nat_cmp p.0 q.0) h.0, each p qs h.1)
+
+-- rows that are due stand before those of a later window
+before_ready : (vertex : ℕ) (passed : Option ℤ) (e : ℤ) → is_due passed e ≡ false → (rows : List RowValue) (ready : List (List ℕ × AccValue)) → Each (λ (r : RowValue). is_due passed r.end ≡ true) rows → Each (λ r. Each (Rises r) (map (row_of vertex e) ready)) rows
+before_ready vertex passed e later [] ready h = tt
+before_ready vertex passed e later (r ∷ rows) ready h = (each ready, before_ready vertex passed e later rows ready h.1)
+  where
+    each : (ready : List (List ℕ × AccValue)) → Each (Rises r) (map (row_of vertex e) ready)
+    each [] = tt
+    each (p ∷ ps) = (less_then r.end e (slice_cmp nat_cmp r.key p.0) (due_more passed e r.end later h.0), each ps)
+
+pub Fits-up : (vertex : ℕ) (size slide : ℤ) (passed : Option ℤ) (held : Table) (frames : List FrameValue) (rows : List RowValue) (e : ℤ) (ready : List (List ℕ × AccValue)) (rest : Table)
+    → Fits vertex size slide passed held frames rows → TakesUp size slide passed held e ready rest
+    → Fits vertex size slide (Some e) rest frames (rows ++ map (row_of vertex e) ready)
+Fits-up vertex size slide passed held frames rows e ready rest fits up =
+    let new : List RowValue = map (row_of vertex e) ready in
+    record {
+      held_is = λ d key m b.
+          let gt : e <ℤ d = by_lt_z e d (λ lt. lt) (λ le. absurd (not_so (int_le d e) (Decides-int_le d e) b le)) in
+          up.leaves d key m gt ∙ fits.held_is d key m (not_due_above passed e d up.later (omega (arith, ints)));
+      rows_are = record {
+        each = up_each vertex size slide passed held frames rows e ready rest fits up;
+        vertices = Each-append (λ (r : RowValue). r.vertex ≡ vertex) rows new fits.rows_are.vertices (ready_vertices vertex e ready);
+        rising = EachPair-append Rises rows new fits.rows_are.rising (ready_rises vertex e ready up.rising) (before_ready vertex passed e up.later rows ready fits.within);
+      };
+      within = Each-append (λ (r : RowValue). int_le r.end e ≡ true) rows new
+          (Each-more (λ (r : RowValue). is_due passed r.end ≡ true) (λ (r : RowValue). int_le r.end e ≡ true) (λ r h. let lt : r.end <ℤ e = due_more passed e r.end up.later h in le_true r.end e (omega (arith, ints))) rows fits.within)
+          (ready_within vertex e ready);
+    }
+
+-- ---- a time passes
+pass_case : (m b c : Bool) (t : Option AccValue) → (b ≡ true → c ≡ true) → (m ≡ true → b ≡ false → c ≡ true → t ≡ None) → as_list (cond (m && b) t None) ≡ as_list (cond (m && c) t None)
+pass_case m true c t h k = rw (h refl) refl
+pass_case m false false t h k = refl
+pass_case false false true t h k = refl
+pass_case true false true t h k = rw (k refl refl refl) refl
+
+pub Fits-pass : (vertex : ℕ) (size slide : ℤ) (passed : Option ℤ) (held : Table) (frames : List FrameValue) (rows : List RowValue) (t : ℤ)
+    → Fits vertex size slide passed held frames rows → Passes passed t → Clear size slide passed held t
+    → Fits vertex size slide (Some t) held frames rows
+Fits-pass vertex size slide passed held frames rows t fits passes clear =
+    record {
+      held_is = λ d key m b. fits.held_is d key m (still d b);
+      rows_are = record {
+        each = λ d key. fits.rows_are.each d key
+            ∙ pass_case (is_multiple slide d) (is_due passed d) (int_le d t) (total (frame_in size d key) frames)
+            (λ b. le_true d t (passes.stays d b))
+            (λ m b c. sym (fits.held_is d key m b) ∙ clear.none d key m b ((Decides-int_le d t).0 c));
+        vertices = fits.rows_are.vertices;
+        rising = fits.rows_are.rising;
+      };
+      within = Each-more (λ (r : RowValue). is_due passed r.end ≡ true) (λ (r : RowValue). int_le r.end t ≡ true) (λ r h. le_true r.end t (passes.stays r.end h)) rows fits.within;
+    }
+  where
+    still_if : (d : ℤ) (b : Bool) → is_due passed d ≡ b → int_le d t ≡ false → is_due passed d ≡ false
+    still_if d true is h = absurd (not_so (int_le d t) (Decides-int_le d t) h (passes.stays d is))
+    still_if d false is h = is
+
+    still : (d : ℤ) → int_le d t ≡ false → is_due passed d ≡ false
+    still d h = still_if d (is_due passed d) refl h
+
+-- ---- a frame is taken
+-- a frame that ends above what passed touches no window that passed
+not_covered : (passed : Option ℤ) (size d end : ℤ) → is_due passed end ≡ false → is_due passed d ≡ true → covers size d end ≡ false
+not_covered passed size d end h k =
+    false_from (covers size d end) (Decides-covers size d end) (λ c. let q = c.1 in let lt : d <ℤ end = due_more passed end d h k in absurd (omega (arith, ints)))
+
+share_none : (b c : Bool) (a : AccValue) → c ≡ false → only (b && c) a ≡ None
+share_none true true a h = absurd (cc)
+share_none true false a h = refl
+share_none false c a h = refl
+
+frame_case : (m b : Bool) (s t : Option AccValue) → (b ≡ true → s ≡ None) → as_list (cond (m && b) t None) ≡ as_list (cond (m && b) (both t (both s None)) None)
+frame_case true true s t h = rw (h refl) (ap as_list (sym (both_none t)))
+frame_case true false s t h = refl
+frame_case false b s t h = refl
+
+pub Fits-frame : (vertex : ℕ) (size slide : ℤ) (passed : Option ℤ) (held : Table) (frames : List FrameValue) (rows : List RowValue) (f : FrameValue) (held' : Table)
+    → Fits vertex size slide passed held frames rows → is_due passed f.end ≡ false
+    → ((d : ℤ) (key : List ℕ) → total (held_in size d key) held' ≡ both (frame_in size d key f) (total (held_in size d key) held))
+    → Fits vertex size slide passed held' (frames ++ f ∷ []) rows
+Fits-frame vertex size slide passed held frames rows f held' fits later grows =
+    record {
+      held_is = λ d key m b. grows d key ∙ (ap (both (frame_in size d key f)) (fits.held_is d key m b) ∙ sym (more d key));
+      rows_are = record {
+        each = λ d key. fits.rows_are.each d key
+            ∙ (frame_case (is_multiple slide d) (is_due passed d) (frame_in size d key f) (total (frame_in size d key) frames)
+            (λ b. share_none (bytes_eq f.key key) (covers size d f.end) f.acc (not_covered passed size d f.end later b))
+            ∙ ap (λ t. as_list (cond (is_multiple slide d && is_due passed d) t None)) (sym (total-append (frame_in size d key) frames (f ∷ []))));
+        vertices = fits.rows_are.vertices;
+        rising = fits.rows_are.rising;
+      };
+      within = fits.within;
+    }
+  where
+    more : (d : ℤ) (key : List ℕ) → total (frame_in size d key) (frames ++ f ∷ []) ≡ both (frame_in size d key f) (total (frame_in size d key) frames)
+    more d key = total-append (frame_in size d key) frames (f ∷ []) ∙ (ap (both (total (frame_in size d key) frames)) (both_none (frame_in size d key f)) ∙ both_comm (total (frame_in size d key) frames) (frame_in size d key f))
+
+pub Fits-none : (vertex : ℕ) (size slide : ℤ) → Fits vertex size slide None [] [] []
+Fits-none vertex size slide = record {
+  held_is = λ e key m b. refl;
+  rows_are = record { each = λ e key. as_none (is_multiple slide e); vertices = tt; rising = tt };
+  within = tt;
+}
+  where
+    as_none : (m : Bool) → as_list {X = AccValue} None ≡ as_list (cond (m && false) None None)
+    as_none true = refl
+    as_none false = refl
+
+-- ---- frames are forgotten
+pub Fits-forget : (vertex : ℕ) (size slide : ℤ) (passed : Option ℤ) (held rest : Table) (frames : List FrameValue) (rows : List RowValue)
+    → Fits vertex size slide passed held frames rows → Forgets size slide passed held rest → Fits vertex size slide passed rest frames rows
+Fits-forget vertex size slide passed held rest frames rows fits f = record {
+  held_is = λ d key m b. f.leaves d key m b ∙ fits.held_is d key m b;
+  rows_are = fits.rows_are;
+  within = fits.within;
+}

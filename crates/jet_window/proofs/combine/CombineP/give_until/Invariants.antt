@@ -1,0 +1,21 @@
+use Rattle.std.proofs.Common.{◌≡◌}
+use Rattle.jet_items.specs.Ranges.{IsWithin, most_row_end}
+use Rattle.jet_window.specs.FrameTables.{IsKept}
+use Rattle.jet_window.specs.Combining.{Passes}
+use Rattle.jet_window.specs.NextEnds.{gap}
+use Rattle.jet_window.specs.CombineStands.{Gave}
+use Rattle.jet_window.specs.CombineView.{combine_of}
+use Rattle.jet_window.proofs.combine.CombineP.give_until.Given as goal
+
+abbrev pub invariant-loop-self : goal.invariant-loop-self
+invariant-loop-self l = record {
+  policy : l.self.policy ≡ l.initial.self.policy;
+  gave : Gave (combine_of l.initial.self) l.initial.out.items (combine_of l.self) l.out.items;
+  room : l.out.room ≡ l.initial.out.room;
+  range : IsWithin most_row_end l.self.end;
+  kept : IsKept l.self.held.entries;
+  bound : Passes l.initial.self.passed l.t → Passes l.self.passed l.t;
+}
+
+abbrev pub decreases-loop-self : goal.decreases-loop-self
+decreases-loop-self l = gap l.self.passed

@@ -1,0 +1,54 @@
+use Rattle.std.proofs.Common.{rules, arith, get_or, pos, ◌≡◌, true, false, ℤ, sym, ◌∙◌, ap, subst, refl, Ok, FitsSigned, to_z-of_z, w64}
+use Rattle.std.proofs.lemmas.Int.{ints}
+use Rattle.jet_boxes.specs.Calls.{Call}
+use Rattle.jet_boxes.specs.Entry.{Given}
+use Rattle.jet_items.specs.Values.{AccValue, EventValue}
+use Rattle.jet_items.specs.declared.item.Item.{Item}
+use Rattle.jet_items.specs.declared.item.Item.TheVariants as item
+use Rattle.jet_items.specs.Rows.{first_value}
+use Rattle.jet_items.specs.Totals.{one}
+use Rattle.jet_items.specs.Frames.{frame_end}
+use Rattle.jet_items.specs.Ranges.{IsWithin, most_time, most_frame_end}
+use Rattle.jet_items.proofs.GridLemmas.{rem_bounds}
+use Rattle.jet_window.specs.FrameTables.{joined_in}
+use Rattle.jet_window.specs.declared.frame.FrameP.{FrameP}
+use Rattle.jet_window.proofs.FrameCalls.{Stands, Amid, Alike, pass_call, late_call, kept_call, err_call, not_event}
+use Rattle.jet_window.proofs.frame.FramePProcessor.accept.Goals as goal
+
+pub returns-in_default : goal.returns-in_default
+returns-in_default c = pass_call c.args.self.now c.args._port c.args._queue c.args.item.now c.args.out.now c.put.new.out c.put.result (not_event c.args.item.now c.in_default.not-Event) c.requires.3.2 c.put.ensures.yes c.put.ensures.none c.put.ensures.full
+
+pub returns-then-late : goal.returns-then-late
+returns-then-late c =
+    let fits : FitsSigned w64 c.event.inside.ts = search rules in
+    let tested = simp to_z-of_z at c.late.ensures in
+    let e : EventValue = record { part = c.event.inside.part; line = c.event.inside.line; ts = c.event.inside.ts; key = c.event.inside.key; v = c.event.inside.v } in
+    let is : item.Event e ≡ c.args.item.now = ap item.Event c.event.view_is ∙ sym c.in-Event.is in
+    subst (λ (x : Item). Call Stands Amid Alike false c.args.self.now (Given c.args._port c.args._queue x) c.args.out.now (Ok c.put-then-late.result) c.args.self.now c.put-then-late.new.out) is
+    (late_call c.args.self.now c.args._port c.args._queue e c.args.out.now c.put-then-late.new.out c.put-then-late.result c.frame_end-end.ensures.policy.slide_low (sym tested ∙ c.if-late.true) c.put-then-late.ensures.yes c.put-then-late.ensures.none c.put-then-late.ensures.full)
+
+pub returns : goal.returns
+returns c =
+    let fits : FitsSigned w64 c.event.inside.ts = search rules in
+    let fits_end : FitsSigned w64 c.frame_end-end.result = record { sfits = c.frame_end-end.type_inv } in
+    let tested = simp to_z-of_z at c.late.ensures in
+    let e : EventValue = record { part = c.event.inside.part; line = c.event.inside.line; ts = c.event.inside.ts; key = c.event.inside.key; v = c.event.inside.v } in
+    let is : item.Event e ≡ c.args.item.now = ap item.Event c.event.view_is ∙ sym c.in-Event.is in
+    let value : c.frame_end-end.result ≡ frame_end c.args.self.now.policy.slide c.event.inside.ts = simp to_z-of_z at c.frame_end-end.ensures.value in
+    let ok = simp to_z-of_z at c.in_ok-keep.ensures.ok in
+    let fits_v : FitsSigned w64 (get_or c.event.inside.v 0 (pos 0)) = search rules in
+    let one_is : c.one.result ≡ one (first_value e) = simp to_z-of_z at c.one.ensures.value in
+    let bounds = rem_bounds c.event.inside.ts c.args.self.now.policy.slide c.frame_end-end.ensures.policy.slide_low in
+    let most = c.frame_end-end.ensures.policy.slide_high in
+    let within : IsWithin most_time c.event.inside.ts = c.event.invariant.0 in
+    let a = within.0 in
+    let b = within.1 in
+    let range : IsWithin most_frame_end (frame_end c.args.self.now.policy.slide c.event.inside.ts) = (omega (arith, ints, bounds), omega (arith, ints, bounds)) in
+    let s : FrameP = record c.args.self.now { held = c.keep.new.held } in
+    let held : c.keep.new.held.entries ≡ joined_in c.args.self.now.held.entries (frame_end c.args.self.now.policy.slide c.event.inside.ts, c.event.inside.key) (one (first_value e)) =
+    ok ∙ (ap (λ (z : ℤ). joined_in c.args.self.now.held.entries (z, c.event.inside.key) c.one.result) value ∙ ap (λ (x : AccValue). joined_in c.args.self.now.held.entries (frame_end c.args.self.now.policy.slide c.event.inside.ts, c.event.inside.key) x) one_is) in
+    subst (λ (x : Item). Call Stands Amid Alike false c.args.self.now (Given c.args._port c.args._queue x) c.args.out.now (Ok true) s c.args.out.now) is
+    (kept_call c.args.self.now s c.args._port c.args._queue e c.args.out.now c.frame_end-end.ensures.policy.slide_low (sym tested ∙ c.if-late.false) range refl refl refl held)
+
+pub returns-in_err-keep : goal.returns-in_err-keep
+returns-in_err-keep c = err_call c.args.self.now _ (Given c.args._port c.args._queue c.args.item.now) c.args.out.now c.from_residual.result c.from_residual.ensures.0 refl refl refl c.in_err-keep.ensures.err

@@ -1,0 +1,50 @@
+-- What a combine vertex holds, against the frames that it took and the rows that it gave.
+use Rattle.std.specs.Prelude.{◌≡◌, ℕ, true, false, ℤ, ◌<ℤ◌, ◌≤ℤ◌, List, Option, None, bytes_eq}
+use Rattle.std.specs.List.{flat_map}
+use Rattle.std.specs.Ordering.{nat_cmp}
+use Rattle.std.specs.Cmp.Lexicographic.{slice_cmp}
+use Rattle.std.specs.declared.cmp.Ordering.TheVariants.{Less}
+use Rattle.jet_items.specs.Frames.{only, frame_in}
+use Rattle.jet_items.specs.Order.{Each, EachPair}
+use Rattle.jet_items.specs.Totals.{total}
+use Rattle.jet_items.specs.Values.{AccValue, FrameValue, RowValue}
+use Rattle.jet_window.specs.FrameTables.{Table, IsKept, held_in}
+use Rattle.jet_window.specs.Tables.{is_multiple}
+use Rattle.jet_window.specs.Taken.{is_due}
+use Rattle.jet_window.specs.WindowRows.{as_list, RowsAre}
+
+-- a row that is still to be given
+abbrev pub row_of : ℕ → ℤ → List ℕ × AccValue → RowValue
+row_of vertex e p = record { vertex = vertex; end = e; key = p.0; acc = p.1 }
+
+abbrev pub accs_at : List ℕ → List (List ℕ × AccValue) → List AccValue
+accs_at key ready = flat_map (λ p. as_list (only (bytes_eq p.0 key) p.1)) ready
+
+-- the rows are those of the windows that passed, and the held frames are enough for the others
+pub record Fits (vertex : ℕ) (size slide : ℤ) (passed : Option ℤ) (held : Table) (frames : List FrameValue) (rows : List RowValue) : Type 0 where
+  pub held_is : (e : ℤ) (key : List ℕ) → is_multiple slide e ≡ true → is_due passed e ≡ false → total (held_in size e key) held ≡ total (frame_in size e key) frames
+  pub rows_are : RowsAre vertex size slide (is_due passed) frames rows
+  pub within : Each (λ r. is_due passed r.end ≡ true) rows
+
+-- the next window is taken up: no window between has a frame, its rows are ready, and the frames that are held on are enough for the later ones
+pub record TakesUp (size slide : ℤ) (passed : Option ℤ) (held : Table) (e : ℤ) (ready : List (List ℕ × AccValue)) (rest : Table) : Type 0 where
+  pub multiple : is_multiple slide e ≡ true
+  pub later : is_due passed e ≡ false
+  pub skips : (d : ℤ) (key : List ℕ) → is_multiple slide d ≡ true → is_due passed d ≡ false → d <ℤ e → total (held_in size d key) held ≡ None
+  pub ready_is : (key : List ℕ) → accs_at key ready ≡ as_list (total (held_in size e key) held)
+  pub rising : EachPair (λ (a b : List ℕ × AccValue). slice_cmp nat_cmp a.0 b.0 ≡ Less) ready
+  pub leaves : (d : ℤ) (key : List ℕ) → is_multiple slide d ≡ true → e <ℤ d → total (held_in size d key) rest ≡ total (held_in size d key) held
+  pub kept : IsKept rest
+
+-- no window up to t is left that has a frame
+pub record Clear (size slide : ℤ) (passed : Option ℤ) (held : Table) (t : ℤ) : Type 0 where
+  pub none : (d : ℤ) (key : List ℕ) → is_multiple slide d ≡ true → is_due passed d ≡ false → d ≤ℤ t → total (held_in size d key) held ≡ None
+
+-- what was due stays due
+pub record Passes (passed : Option ℤ) (t : ℤ) : Type 0 where
+  pub stays : (d : ℤ) → is_due passed d ≡ true → d ≤ℤ t
+
+-- what is left brings the same to every window that is still open
+pub record Forgets (size slide : ℤ) (passed : Option ℤ) (held rest : Table) : Type 0 where
+  pub leaves : (d : ℤ) (key : List ℕ) → is_multiple slide d ≡ true → is_due passed d ≡ false → total (held_in size d key) rest ≡ total (held_in size d key) held
+  pub kept : IsKept held → IsKept rest

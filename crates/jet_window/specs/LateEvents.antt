@@ -1,0 +1,45 @@
+-- Which events come late at a window vertex, and which are kept.
+use Rattle.std.specs.Prelude.{ℕ, Bool, false, cond, ℤ, int_lt, List, [], ◌∷◌, ◌++◌, Option, Some, None}
+use Rattle.jet_items.specs.Grid.{floor_to}
+use Rattle.jet_items.specs.Kinds.{as_mark}
+use Rattle.jet_items.specs.Values.{EventValue, LateValue}
+use Rattle.jet_items.specs.declared.item.Item.{Item}
+use Rattle.jet_items.specs.declared.item.Item.TheVariants as item
+use Rattle.jet_window.specs.Taken.{last_from}
+
+-- a time is late: it lies below the greatest multiple of the slide that is at most the last mark
+abbrev pub is_late : ℤ → Option ℤ → ℤ → Bool
+is_late slide None ts = false
+is_late slide (Some w) ts = int_lt ts (floor_to slide w)
+
+-- what each item brings, told the last mark before it
+abbrev pub brought : {X : Type 0} → (Option ℤ → Item → List X) → Option ℤ → List Item → List X
+brought f last [] = []
+brought f last (x ∷ xs) = f last x ++ brought f (last_from last (as_mark x)) xs
+
+-- an event that is late gives a late item of the vertex; a late item that was taken passes
+abbrev pub late_by : ℕ → ℤ → Option ℤ → Item → List LateValue
+late_by vertex slide last (item.Event e) = cond (is_late slide last e.ts) (record { vertex = vertex; event = e } ∷ []) []
+late_by vertex slide last (item.Side s) = []
+late_by vertex slide last (item.Frame f) = []
+late_by vertex slide last (item.Row r) = []
+late_by vertex slide last (item.Late l) = l ∷ []
+late_by vertex slide last (item.Mark m) = []
+late_by vertex slide last item.Done = []
+
+-- the other events are kept
+abbrev pub kept_by : ℤ → Option ℤ → Item → List EventValue
+kept_by slide last (item.Event e) = cond (is_late slide last e.ts) [] (e ∷ [])
+kept_by slide last (item.Side s) = []
+kept_by slide last (item.Frame f) = []
+kept_by slide last (item.Row r) = []
+kept_by slide last (item.Late l) = []
+kept_by slide last (item.Mark m) = []
+kept_by slide last item.Done = []
+
+-- the late items that a vertex gives for these items, and the events that it keeps
+abbrev pub late_items : ℕ → ℤ → List Item → List LateValue
+late_items vertex slide xs = brought (late_by vertex slide) None xs
+
+abbrev pub kept_events : ℤ → List Item → List EventValue
+kept_events slide xs = brought (kept_by slide) None xs

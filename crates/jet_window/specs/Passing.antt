@@ -1,0 +1,268 @@
+-- Lists of items and entries with one more, and what follows the marks in them.
+use Rattle.std.proofs.Common.{◌≡◌, ℕ, Bool, true, false, ℤ, List, [], ◌∷◌, ◌++◌, Option, Some, None, refl, sym, ◌∙◌, ap, subst, arith, append-nil, append_assoc}
+use Rattle.std.specs.List.{flat_map}
+use Rattle.std.proofs.lemmas.List.Concat.{flat_map-append}
+use Rattle.std.proofs.lemmas.List.Sums.{sum_by-append}
+use Rattle.jet_items.specs.Bag.{SameBag}
+use Rattle.jet_items.specs.Kinds.{marks_of, as_mark, events_of}
+use Rattle.jet_items.specs.Order.{Each, EachPair, Sound, SoundAfter, SoundBelow, ClosedAfter, IsAbove}
+use Rattle.jet_items.specs.declared.item.Item.{Item}
+use Rattle.jet_items.specs.declared.item.Item.TheVariants as item
+use Rattle.jet_items.proofs.Orders.{Each-append, Each-more, Each-front, Each-back, EachPair-append, EachPair-front, EachPair-across, EachPair-back, Shadows, Sound-front}
+use Rattle.jet_boxes.specs.declared.port.Port.{Port}
+use Rattle.jet_boxes.specs.Entry.{Entry, Given, Told, Closed, Finish, items_of, entry_items, NotFinish, IsData, MayAll, MayCome, NotDone}
+use Rattle.jet_window.specs.FrameStands.{NoEvent}
+use Rattle.jet_window.specs.Taken.{last_from, last_mark, is_finished, AnyQueue, CombineInput}
+
+-- ---- orders that are taken over
+pub Shadows-append : {X : Type 0} (R : X → X → Type 0) (xs ys us vs : List X) → Shadows R xs ys → Shadows R us vs → Shadows R (xs ++ us) (ys ++ vs)
+Shadows-append R xs ys us vs h k = record {
+  inside = λ m. EachPair-append R xs us (h.inside (EachPair-front R ys vs m)) (k.inside (EachPair-back R ys vs m))
+      (h.earlier us (Each-more (λ y. Each (R y) vs) (λ y. Each (R y) us) (λ y n. k.later y n) ys (EachPair-across R ys vs m)));
+  later = λ z m. Each-append (R z) xs us (h.later z (Each-front (R z) ys vs m)) (k.later z (Each-back (R z) ys vs m));
+  earlier = λ zs m. Each-append (λ x. Each (R x) zs) xs us (h.earlier zs (Each-front (λ y. Each (R y) zs) ys vs m)) (k.earlier zs (Each-back (λ y. Each (R y) zs) ys vs m));
+}
+
+-- more may have been taken
+pub Shadows-more : {X : Type 0} (R : X → X → Type 0) (xs ys vs : List X) → Shadows R xs ys → Shadows R xs (ys ++ vs)
+Shadows-more R xs ys vs h = record {
+  inside = λ m. h.inside (EachPair-front R ys vs m);
+  later = λ z m. h.later z (Each-front (R z) ys vs m);
+  earlier = λ zs m. h.earlier zs (Each-front (λ y. Each (R y) zs) ys vs m);
+}
+
+-- ---- the last mark
+pub last_push : (o : Option ℤ) (ws : List ℤ) (t : ℤ) → last_from o (ws ++ t ∷ []) ≡ Some t
+last_push o [] t = refl
+last_push o (w ∷ ws) t = last_push (Some w) ws t
+
+pub last_append : (o : Option ℤ) (ws vs : List ℤ) → last_from o (ws ++ vs) ≡ last_from (last_from o ws) vs
+last_append o [] vs = refl
+last_append o (w ∷ ws) vs = last_append (Some w) ws vs
+
+-- a mark that is the last is one of them
+pub last_each : (P : ℤ → Type 0) (v w : ℤ) (ws : List ℤ) → P v → Each P ws → last_from (Some v) ws ≡ Some w → P w
+last_each P v w [] h k is = subst P (some_is is) h
+  where
+    some_is : {a b : ℤ} → Some a ≡ Some b → a ≡ b
+    some_is e = cc
+last_each P v w (u ∷ ws) h k is = last_each P u w ws k.0 k.1 is
+
+none_not_some : (w : ℤ) → None ≡ Some w → ⊥
+none_not_some w e = absurd (cc)
+
+pub from_last : (P : ℤ → Type 0) (p : ℤ) (ws : List ℤ) → Each P ws → last_from None ws ≡ Some p → P p
+from_last P p [] h k = absurd (none_not_some p k)
+from_last P p (w ∷ ws) h k = last_each P w p ws h.0 h.1 k
+
+-- ---- one more
+pub items_push : (taken : List Entry) (e : Entry) → items_of (taken ++ e ∷ []) ≡ items_of taken ++ (entry_items e ++ [])
+items_push taken e = flat_map-append entry_items taken (e ∷ [])
+
+-- of what one more entry brings
+pub of_push : {X : Type 0} (f : Item → List X) (taken : List Entry) (e : Entry) → flat_map f (items_of (taken ++ e ∷ [])) ≡ flat_map f (items_of taken) ++ flat_map f (entry_items e ++ [])
+of_push f taken e = ap (λ (xs : List Item). flat_map f xs) (items_push taken e) ∙ flat_map-append f (items_of taken) (entry_items e ++ [])
+
+-- where one more brings nothing
+pub of_none : {X : Type 0} (f : Item → List X) (xs : List Item) (x : Item) → f x ≡ [] → flat_map f (xs ++ x ∷ []) ≡ flat_map f xs
+of_none f xs x none = flat_map-append f xs (x ∷ []) ∙ (ap (λ (us : List _). flat_map f xs ++ (us ++ [])) none ∙ append-nil (flat_map f xs))
+
+-- where both lists have one more
+pub of_both : {X : Type 0} (f : Item → List X) (xs ys : List Item) (x : Item) → flat_map f xs ≡ flat_map f ys → flat_map f (xs ++ x ∷ []) ≡ flat_map f (ys ++ x ∷ [])
+of_both f xs ys x h = flat_map-append f xs (x ∷ []) ∙ (ap (λ (us : List _). us ++ flat_map f (x ∷ [])) h ∙ sym (flat_map-append f ys (x ∷ [])))
+
+-- a bag that one more comes to on both sides
+pub bag_both : {X : Type 0} (f : Item → List X) (xs ys : List Item) (own : List X) (x : Item) → SameBag (flat_map f xs) (flat_map f ys ++ own) → SameBag (flat_map f (xs ++ x ∷ [])) (flat_map f (ys ++ x ∷ []) ++ own)
+bag_both f xs ys own x h =
+    rw (flat_map-append f xs (x ∷ []), flat_map-append f ys (x ∷ []))
+    (record {
+      weighs = λ w. omega (
+        arith,
+        h.weighs w,
+        sum_by-append w (flat_map f xs) (flat_map f (x ∷ [])),
+        sum_by-append w (flat_map f ys) own,
+        sum_by-append w (flat_map f ys ++ flat_map f (x ∷ [])) own,
+        sum_by-append w (flat_map f ys) (flat_map f (x ∷ [])),
+      );
+    })
+
+pub marks_none : (x : Item) → IsData x → as_mark x ≡ []
+marks_none (item.Event e) h = refl
+marks_none (item.Side e) h = refl
+marks_none (item.Frame e) h = refl
+marks_none (item.Row e) h = refl
+marks_none (item.Late e) h = refl
+marks_none (item.Mark e) h = absurd h
+marks_none item.Done h = absurd h
+
+pub data_open : (x : Item) → IsData x → NotDone x
+data_open (item.Event e) h = tt
+data_open (item.Side e) h = tt
+data_open (item.Frame e) h = tt
+data_open (item.Row e) h = tt
+data_open (item.Late e) h = tt
+data_open (item.Mark e) h = tt
+data_open item.Done h = absurd h
+
+pub same_last : (taken : List Entry) (port : Port) (q : ℕ) (x : Item) → as_mark x ≡ [] → last_mark (taken ++ Given port q x ∷ []) ≡ last_mark taken
+same_last taken port q x none = ap (last_from None) (ap marks_of (items_push taken (Given port q x)) ∙ of_none as_mark (items_of taken) x none)
+
+-- ---- marks and what comes after them
+free_after : (x : Item) → ((y : Item) → ClosedAfter x y) → (ys : List Item) → Each (ClosedAfter x) ys
+free_after x h [] = tt
+free_after x h (y ∷ ys) = (h y, free_after x h ys)
+
+pub after_marks : (xs ys : List Item) → Each NotDone xs → Each (λ w. Each (IsAbove w) ys) (marks_of xs) → Each (λ x. Each (ClosedAfter x) ys) xs
+after_marks [] ys h k = tt
+after_marks (item.Event e ∷ xs) ys h k = (free_after (item.Event e) (λ y. tt) ys, after_marks xs ys h.1 k)
+after_marks (item.Side e ∷ xs) ys h k = (free_after (item.Side e) (λ y. tt) ys, after_marks xs ys h.1 k)
+after_marks (item.Frame e ∷ xs) ys h k = (free_after (item.Frame e) (λ y. tt) ys, after_marks xs ys h.1 k)
+after_marks (item.Row e ∷ xs) ys h k = (free_after (item.Row e) (λ y. tt) ys, after_marks xs ys h.1 k)
+after_marks (item.Late e ∷ xs) ys h k = (free_after (item.Late e) (λ y. tt) ys, after_marks xs ys h.1 k)
+after_marks (item.Mark w ∷ xs) ys h k = (k.0, after_marks xs ys h.1 k.1)
+after_marks (item.Done ∷ xs) ys h k = absurd h.0
+
+-- the other way round
+pub marks_before : (xs ys : List Item) → Each (λ x. Each (ClosedAfter x) ys) xs → Each (λ w. Each (IsAbove w) ys) (marks_of xs)
+marks_before [] ys h = tt
+marks_before (item.Event e ∷ xs) ys h = marks_before xs ys h.1
+marks_before (item.Side e ∷ xs) ys h = marks_before xs ys h.1
+marks_before (item.Frame e ∷ xs) ys h = marks_before xs ys h.1
+marks_before (item.Row e ∷ xs) ys h = marks_before xs ys h.1
+marks_before (item.Late e ∷ xs) ys h = marks_before xs ys h.1
+marks_before (item.Mark w ∷ xs) ys h = (h.0, marks_before xs ys h.1)
+marks_before (item.Done ∷ xs) ys h = marks_before xs ys h.1
+
+-- the marks before one more item are below it
+pub marks_below : (xs : List Item) (x : Item) → EachPair ClosedAfter (xs ++ x ∷ []) → Each (λ w. Each (IsAbove w) (x ∷ [])) (marks_of xs)
+marks_below xs x h = marks_before xs (x ∷ []) (EachPair-across ClosedAfter xs (x ∷ []) h)
+
+pub closed_before : (xs : List Item) (x : Item) → EachPair ClosedAfter (xs ++ x ∷ []) → EachPair ClosedAfter xs
+closed_before xs x h = EachPair-front ClosedAfter xs (x ∷ []) h
+
+-- one more item after the same marks
+pub closed_push : (given items : List Item) (x : Item) → Each NotDone given → marks_of given ≡ marks_of items → EachPair ClosedAfter given → EachPair ClosedAfter (items ++ x ∷ []) → EachPair ClosedAfter (given ++ x ∷ [])
+closed_push given items x opens marks h k =
+    EachPair-append ClosedAfter given (x ∷ []) h (tt, tt) (after_marks given (x ∷ []) opens (subst (Each (λ w. Each (IsAbove w) (x ∷ []))) (sym marks) (marks_below items x k)))
+
+-- what a later item owes to the marks before it
+pub marks_sound : (behind : ℕ → ℕ → Bool) (y : Item) (xs : List Item) → Each (λ x. Each (SoundAfter behind x) (y ∷ [])) xs → Each (λ w. SoundBelow behind w y) (marks_of xs)
+marks_sound behind y [] h = tt
+marks_sound behind y (item.Event e ∷ xs) h = marks_sound behind y xs h.1
+marks_sound behind y (item.Side e ∷ xs) h = marks_sound behind y xs h.1
+marks_sound behind y (item.Frame e ∷ xs) h = marks_sound behind y xs h.1
+marks_sound behind y (item.Row e ∷ xs) h = marks_sound behind y xs h.1
+marks_sound behind y (item.Late e ∷ xs) h = marks_sound behind y xs h.1
+marks_sound behind y (item.Mark w ∷ xs) h = (h.0.0, marks_sound behind y xs h.1)
+marks_sound behind y (item.Done ∷ xs) h = marks_sound behind y xs h.1
+
+-- ---- what was taken before was as it is to be
+pub sound_front : (behind : ℕ → ℕ → Bool) (taken : List Entry) (e : Entry) → Sound behind (items_of (taken ++ e ∷ [])) → Sound behind (items_of taken)
+sound_front behind taken e h = Sound-front behind (items_of taken) (entry_items e ++ []) (subst (Sound behind) (items_push taken e) h)
+
+pub closed_front : (taken : List Entry) (e : Entry) → EachPair ClosedAfter (items_of (taken ++ e ∷ [])) → EachPair ClosedAfter (items_of taken)
+closed_front taken e h = EachPair-front ClosedAfter (items_of taken) (entry_items e ++ []) (subst (EachPair ClosedAfter) (items_push taken e) h)
+
+pub comes_front : (taken : List Entry) (e : Entry) → MayAll AnyQueue (taken ++ e ∷ []) → MayAll AnyQueue taken
+comes_front taken e h = λ front x rest is. h front x (rest ++ e ∷ []) (ap (λ (es : List Entry). es ++ e ∷ []) is ∙ append_assoc front (x ∷ rest) (e ∷ []))
+
+come_open : (taken : List Entry) (e : Entry) → MayCome AnyQueue taken e → Each NotFinish taken
+come_open taken (Given port q x) h = h.0
+come_open taken (Told t) h = h
+come_open taken (Closed port q) h = h.0
+come_open taken Finish h = h
+
+pub input_front : (taken : List Entry) (e : Entry) → CombineInput (taken ++ e ∷ []) → CombineInput taken
+input_front taken e h = record { closed = record { after = closed_front taken e h.closed.after }; comes = comes_front taken e h.comes }
+
+pub input_open : (taken : List Entry) (e : Entry) → CombineInput (taken ++ e ∷ []) → Each NotFinish taken
+input_open taken e h = come_open taken e (h.comes taken e [] refl)
+
+-- the marks taken are below what came after them
+pub input_above : (taken : List Entry) (e : Entry) → CombineInput (taken ++ e ∷ []) → Each (λ w. Each (IsAbove w) (entry_items e ++ [])) (marks_of (items_of taken))
+input_above taken e h = marks_before (items_of taken) (entry_items e ++ []) (EachPair-across ClosedAfter (items_of taken) (entry_items e ++ []) (subst (EachPair ClosedAfter) (items_push taken e) h.closed.after))
+
+-- ---- the finish
+pub not_finished : (taken : List Entry) → is_finished taken ≡ false → Each NotFinish taken
+not_finished [] h = tt
+not_finished (Given port q x ∷ es) h = (tt, not_finished es h)
+not_finished (Told t ∷ es) h = (tt, not_finished es h)
+not_finished (Closed port q ∷ es) h = (tt, not_finished es h)
+not_finished (Finish ∷ es) h = absurd (never h)
+  where
+    never : true ≡ false → ⊥
+    never e = absurd (cc)
+
+pub unfinished : (taken : List Entry) → Each NotFinish taken → is_finished taken ≡ false
+unfinished [] h = refl
+unfinished (Given port q x ∷ es) h = unfinished es h.1
+unfinished (Told t ∷ es) h = unfinished es h.1
+unfinished (Closed port q ∷ es) h = unfinished es h.1
+unfinished (Finish ∷ es) h = absurd h.0
+
+pub finished_push : (taken : List Entry) (e : Entry) → NotFinish e → is_finished (taken ++ e ∷ []) ≡ true → is_finished taken ≡ true
+finished_push [] (Given port q x) n h = h
+finished_push [] (Told t) n h = h
+finished_push [] (Closed port q) n h = h
+finished_push [] Finish n h = absurd n
+finished_push (Given port q x ∷ es) e n h = finished_push es e n h
+finished_push (Told t ∷ es) e n h = finished_push es e n h
+finished_push (Closed port q ∷ es) e n h = finished_push es e n h
+finished_push (Finish ∷ es) e n h = refl
+
+pub finished_last : (taken : List Entry) → is_finished (taken ++ Finish ∷ []) ≡ true
+finished_last [] = refl
+finished_last (Given port q x ∷ es) = finished_last es
+finished_last (Told t ∷ es) = finished_last es
+finished_last (Closed port q ∷ es) = finished_last es
+finished_last (Finish ∷ es) = refl
+
+-- nothing was finished before what may still come
+pub never_finished : (taken : List Entry) → is_finished taken ≡ true → Each NotFinish taken → ⊥
+never_finished [] h k = absurd (cc)
+never_finished (Given port q x ∷ es) h k = never_finished es h k.1
+never_finished (Told t ∷ es) h k = never_finished es h k.1
+never_finished (Closed port q ∷ es) h k = never_finished es h k.1
+never_finished (Finish ∷ es) h k = k.0
+
+abbrev last_or : Entry → List Entry → Entry
+last_or d [] = d
+last_or d (e ∷ es) = last_or e es
+
+last_or-push : (d : Entry) (es : List Entry) (e : Entry) → last_or d (es ++ e ∷ []) ≡ e
+last_or-push d [] e = refl
+last_or-push d (x ∷ es) e = last_or-push x es e
+
+-- an entry that is not the finish comes last
+pub not_last : (taken : List Entry) (e : Entry) → NotFinish e → (front : List Entry) → taken ++ e ∷ [] ≡ front ++ Finish ∷ [] → ⊥
+not_last taken e n front is = subst NotFinish (sym (last_or-push e taken e) ∙ (ap (last_or e) is ∙ last_or-push e front Finish)) n
+
+-- ---- no event is given
+pub no_events_none : (xs : List Item) → Each NoEvent xs → events_of xs ≡ []
+no_events_none [] h = refl
+no_events_none (item.Event e ∷ xs) h = absurd h.0
+no_events_none (item.Side e ∷ xs) h = no_events_none xs h.1
+no_events_none (item.Frame e ∷ xs) h = no_events_none xs h.1
+no_events_none (item.Row e ∷ xs) h = no_events_none xs h.1
+no_events_none (item.Late e ∷ xs) h = no_events_none xs h.1
+no_events_none (item.Mark e ∷ xs) h = no_events_none xs h.1
+no_events_none (item.Done ∷ xs) h = no_events_none xs h.1
+
+after_event : (behind : ℕ → ℕ → Bool) (x y : Item) → NoEvent y → SoundAfter behind x y
+after_event behind (item.Event e) y h = tt
+after_event behind (item.Side e) y h = tt
+after_event behind (item.Frame e) y h = tt
+after_event behind (item.Row e) y h = tt
+after_event behind (item.Late e) y h = tt
+after_event behind (item.Mark w) (item.Event e) h = absurd h
+after_event behind (item.Mark w) (item.Side e) h = tt
+after_event behind (item.Mark w) (item.Frame e) h = tt
+after_event behind (item.Mark w) (item.Row e) h = tt
+after_event behind (item.Mark w) (item.Late e) h = tt
+after_event behind (item.Mark w) (item.Mark e) h = tt
+after_event behind (item.Mark w) item.Done h = tt
+after_event behind item.Done y h = tt
+
+pub no_events_sound : (behind : ℕ → ℕ → Bool) (xs : List Item) → Each NoEvent xs → EachPair (SoundAfter behind) xs
+no_events_sound behind [] h = tt
+no_events_sound behind (x ∷ xs) h = (Each-more NoEvent (SoundAfter behind x) (after_event behind x) xs h.1, no_events_sound behind xs h.1)

@@ -1,0 +1,264 @@
+// The second stage of a sliding window: rows of windows from frames. This is the combine vertex of the two-stage
+// aggregation in Hazelcast Jet's paper.
+ghost use Rattle.std.specs.Prelude.{◌≡◌, ℕ, ℤ, Bool, true, false, length, List, [], ◌∷◌, ◌++◌, OnOk, OnErr, IfSome, IfNone, Some, Ok};
+ghost use Rattle.std.proofs.Common.{◌∙◌, refl};
+ghost use Rattle.jet_items.specs.Kinds.{marks_of};
+ghost use Rattle.jet_items.specs.Order.{Sound, Closed as ClosedItems};
+ghost use Rattle.jet_items.specs.Ranges.{IsWithin, most_row_end};
+ghost use Rattle.jet_items.specs.declared.item.Item.{Item};
+ghost use Rattle.jet_boxes.specs.Entry.{Entry, items_of};
+ghost use Rattle.jet_window.specs.CombineStands.{CombineBag, CombineBagAmid, CombineStands, CombineAmid, Gave, PutsReady};
+ghost use Rattle.jet_window.specs.CombineView.{combine_of};
+ghost use Rattle.jet_window.specs.Combining.{Forgets, Clear, Passes};
+ghost use Rattle.jet_window.specs.FrameTables.{IsKept};
+ghost use Rattle.jet_window.specs.NextEnds.{IsNextEnd};
+ghost use Rattle.jet_window.specs.Taken.{due_after, CombineInput};
+ghost use Rattle.jet_window.specs.WindowOf.{WindowOf};
+
+use crate::held::{end_above, keep, window_rows};
+use jet_boxes::{Outbox, Port, Processor};
+use jet_items::{Acc, Item, Key, Mark, NoMemory, Row};
+use jet_policy::WinPolicy;
+use std::alloc::Global;
+use std::collections::BTreeMap;
+
+/// Joins the frames of each window and key to a row, once a mark closes the window: what a job's combine vertex does.
+///
+/// `held` has the frames of open windows, `passed` says up to which end windows are done, and `ready` has the rows of
+/// the window at `end` that are still to be put. Only ends of windows that hold a frame are visited, so a mark that
+/// jumps far is cheap.
+#[derive(Drop)]
+pub struct CombineP {
+    vertex: u8,
+    policy: WinPolicy,
+    alloc: Global,
+    passed: Option<Mark>,
+    end: i64,
+    held: BTreeMap<(i64, Key), Acc>,
+    ready: BTreeMap<Key, Acc>,
+}
+
+impl CombineP {
+    /// A combine vertex of this number that has taken nothing.
+    pub fn new(alloc: Global, vertex: u8, policy: WinPolicy) -> CombineP
+        ensures vertex { result.vertex ≡ vertex }
+        ensures policy { result.policy ≡ policy }
+        ensures stands { CombineStands (combine_of result) [] [] }
+    {
+        CombineP {
+            vertex,
+            policy,
+            alloc,
+            passed: None,
+            end: 0,
+            held: BTreeMap::new(alloc),
+            ready: BTreeMap::new(alloc),
+        }
+    }
+
+    // The end of the first window that is open and has a frame. Frames whose windows have all passed are forgotten.
+    fn next_end(&mut self) -> Option<i64>
+        requires { IsKept self.old.held.entries }
+        ensures vertex { self.new.vertex ≡ self.old.vertex }
+        ensures policy { self.new.policy ≡ self.old.policy }
+        ensures passed { self.new.passed ≡ self.old.passed }
+        ensures end { self.new.end ≡ self.old.end }
+        ensures alloc { self.new.alloc ≡ self.old.alloc }
+        ensures ready { self.new.ready ≡ self.old.ready }
+        ensures forgets { Forgets self.old.policy.size self.old.policy.slide self.old.passed self.old.held.entries self.new.held.entries }
+        ensures some { IfSome result (λ e. IsNextEnd self.old.policy.size self.old.policy.slide self.old.passed self.new.held.entries e) }
+        ensures none { IfNone result (self.new.held.entries ≡ []) }
+    {
+        while let Some((at, _)) = self.held.first_key_value() {
+            let end = at.0;
+            let next = end_above(&self.policy, self.passed, end);
+            if next < end + self.policy.size() {
+                return Some(next);
+            }
+            let _ = self.held.pop_first();
+        }
+        None
+    }
+
+    // Takes up the next window: its rows are ready.
+    fn take_up(&mut self, end: i64) -> Result<(), NoMemory>
+        requires { IsWithin most_row_end end }
+        ensures vertex { self.new.vertex ≡ self.old.vertex }
+        ensures policy { self.new.policy ≡ self.old.policy }
+        ensures held { self.new.held ≡ self.old.held }
+        ensures passed { OnOk result (self.new.passed ≡ Some end) }
+        ensures end { OnOk result (self.new.end ≡ end) }
+        ensures rows { OnOk result (WindowOf self.old.policy.size end self.old.held.entries self.new.ready.entries) }
+        ensures same { OnErr result (self.new ≡ self.old) }
+    {
+        let rows = window_rows(self.alloc, &self.held, self.policy.size(), end)?;
+        self.ready = rows;
+        self.end = end;
+        self.passed = Some(Mark { t: end });
+        Ok(())
+    }
+
+    // Puts the rows that are ready, and says whether all were put.
+    fn put_ready(&mut self, out: &mut Outbox) -> bool
+        requires { IsWithin most_row_end self.old.end }
+        ensures vertex { self.new.vertex ≡ self.old.vertex }
+        ensures policy { self.new.policy ≡ self.old.policy }
+        ensures passed { self.new.passed ≡ self.old.passed }
+        ensures end { self.new.end ≡ self.old.end }
+        ensures held { self.new.held ≡ self.old.held }
+        ensures room { out.new.room ≡ out.old.room }
+        ensures put { PutsReady self.old.vertex self.old.end self.old.ready.entries out.old.items self.new.ready.entries out.new.items }
+        ensures all { result ≡ true → self.new.ready.entries ≡ [] }
+        ensures full { result ≡ false → length out.new.items ≡ out.new.room }
+    {
+        while let Some((key, acc)) = self.ready.first_key_value() {
+            let row = Row {
+                vertex: self.vertex,
+                end: self.end,
+                key: *key,
+                acc: *acc,
+            };
+            if let Err(_) = out.offer(Item::Row(row)) {
+                return false;
+            }
+            let _ = self.ready.pop_first();
+        }
+        true
+    }
+
+    // Puts the rows of the windows that end at most at `t`, and says whether all were put.
+    fn give_until(&mut self, t: i64, out: &mut Outbox) -> Result<bool, NoMemory>
+        requires range { IsWithin most_row_end self.old.end }
+        requires kept { IsKept self.old.held.entries }
+        ensures policy { self.new.policy ≡ self.old.policy }
+        ensures gave { Gave (combine_of self.old) out.old.items (combine_of self.new) out.new.items }
+        ensures bound { Passes self.old.passed t → Passes self.new.passed t }
+        ensures room { out.new.room ≡ out.old.room }
+        ensures all { result ≡ Ok true → self.new.ready.entries ≡ [] }
+        ensures clear { result ≡ Ok true → Clear self.new.policy.size self.new.policy.slide self.new.passed self.new.held.entries t }
+        ensures full { result ≡ Ok false → length out.new.items ≡ out.new.room }
+    {
+        while self.put_ready(out) {
+            let Some(end) = self.next_end() else {
+                return Ok(true);
+            };
+            if t < end {
+                return Ok(true);
+            }
+            self.take_up(end)?;
+        }
+        Ok(false)
+    }
+
+    // Puts the rows of all windows, and says whether all were put.
+    fn give_all(&mut self, out: &mut Outbox) -> Result<bool, NoMemory>
+        requires range { IsWithin most_row_end self.old.end }
+        requires kept { IsKept self.old.held.entries }
+        ensures policy { self.new.policy ≡ self.old.policy }
+        ensures gave { Gave (combine_of self.old) out.old.items (combine_of self.new) out.new.items }
+        ensures room { out.new.room ≡ out.old.room }
+        ensures all { result ≡ Ok true → self.new.ready.entries ≡ [] }
+        ensures none { result ≡ Ok true → self.new.held.entries ≡ [] }
+        ensures full { result ≡ Ok false → length out.new.items ≡ out.new.room }
+    {
+        while self.put_ready(out) {
+            let Some(end) = self.next_end() else {
+                return Ok(true);
+            };
+            self.take_up(end)?;
+        }
+        Ok(false)
+    }
+}
+
+impl Processor for CombineP {
+    ghost stands = { λ p taken given. CombineStands (combine_of p) taken given };
+
+    ghost amid = { λ p taken entry given. CombineAmid (combine_of p) taken entry given };
+
+    ghost takes = { λ p port queue. Unit {0} };
+
+    ghost same = { λ p q. (q.vertex ≡ p.vertex) × (q.policy ≡ p.policy) };
+
+    ghost frugal = { false };
+
+    ghost sound_if = { λ p behind taken. Sound behind (items_of taken) };
+
+    ghost closed_if = { λ p taken. ClosedItems (items_of taken) };
+
+    ghost bag = { λ p taken given. CombineBag p.vertex p.policy.size p.policy.slide (due_after taken) (CombineInput taken) taken given };
+
+    ghost bag_amid = { λ p taken entry given. CombineBagAmid p.vertex p.policy.size p.policy.slide taken entry given };
+
+    ghost marks = { λ p taken given. marks_of given ≡ marks_of (items_of taken) };
+
+    ghost marks_amid = { λ p taken entry given. marks_of given ≡ marks_of (items_of taken) };
+
+    fn accept(
+        &mut self,
+        _port: Port,
+        _queue: u32,
+        item: &Item,
+        out: &mut Outbox,
+    ) -> Result<bool, NoMemory> {
+        if let Item::Frame(frame) = item {
+            keep(&mut self.held, frame.end, frame.key, &frame.acc)?;
+            return Ok(true);
+        }
+        match out.offer(*item) {
+            Ok(()) => Ok(true),
+            Err(_) => Ok(false),
+        }
+    }
+
+    fn mark(&mut self, mark: Mark, out: &mut Outbox) -> Result<bool, NoMemory> {
+        if !self.give_until(mark.t, out)? {
+            return Ok(false);
+        }
+        match out.offer(Item::Mark(mark)) {
+            Ok(()) => {
+                self.passed = Some(mark);
+                Ok(true)
+            }
+            Err(_) => Ok(false),
+        }
+    }
+
+    fn close_queue(&mut self, _port: Port, _queue: u32, _out: &mut Outbox) -> bool {
+        true
+    }
+
+    fn finish(&mut self, out: &mut Outbox) -> Result<bool, NoMemory> {
+        self.give_all(out)
+    }
+
+    ghost use Rattle.jet_window.specs.CombineLaws.{combine_begins, combine_sound, combine_sound_amid, combine_closed, combine_closed_amid, combine_open, combine_open_amid, combine_bag, combine_bag_amid, combine_marks, combine_marks_amid};
+
+    ghost same_refl = { λ p. (refl, refl) };
+
+    ghost same_trans = { λ p q r h k. (k.0 ∙ h.0, k.1 ∙ h.1) };
+
+    ghost takes_stays = { λ p q port queue h k. tt };
+
+    ghost begins = { λ p taken entry given h. combine_begins (combine_of p) taken entry given h };
+
+    ghost sound_law = { λ behind p taken given h k. combine_sound behind (combine_of p) taken given h k };
+
+    ghost sound_law_amid = { λ behind p taken entry given h k. combine_sound_amid behind (combine_of p) taken entry given h k };
+
+    ghost closed_law = { λ p taken given h k. combine_closed (combine_of p) taken given h k };
+
+    ghost closed_law_amid = { λ p taken entry given h k. combine_closed_amid (combine_of p) taken entry given h k };
+
+    ghost open_law = { λ p taken given h k. combine_open (combine_of p) taken given h };
+
+    ghost open_law_amid = { λ p taken entry given h k. combine_open_amid (combine_of p) taken entry given h };
+
+    ghost bag_law = { λ p taken given h. combine_bag (combine_of p) taken given h };
+
+    ghost bag_law_amid = { λ p taken entry given h. combine_bag_amid (combine_of p) taken entry given h };
+
+    ghost marks_law = { λ p taken given h. combine_marks (combine_of p) taken given h };
+
+    ghost marks_law_amid = { λ p taken entry given h. combine_marks_amid (combine_of p) taken entry given h };
+}

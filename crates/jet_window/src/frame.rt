@@ -1,0 +1,195 @@
+// The first stage of a sliding window: frames of events. This is the accumulate vertex of the two-stage aggregation
+// in Hazelcast Jet's paper.
+ghost use Rattle.std.specs.Prelude.{◌≡◌, ℕ, ℤ, Bool, true, false, length, List, [], ◌∷◌, ◌++◌, map, pos};
+ghost use Rattle.std.proofs.Common.{◌∙◌, sym, refl};
+ghost use Rattle.jet_items.specs.Ranges.{IsWithin, most_time, most_frame_end};
+ghost use Rattle.jet_items.specs.Rows.{first_value};
+ghost use Rattle.jet_items.specs.Frames.{frame_end};
+ghost use Rattle.jet_items.specs.Totals.{one};
+ghost use Rattle.jet_items.specs.Kinds.{marks_of};
+ghost use Rattle.jet_items.specs.Order.{Sound, Closed as ClosedItems};
+ghost use Rattle.jet_items.specs.declared.item.Item.{Item};
+ghost use Rattle.jet_boxes.specs.Entry.{Entry, items_of};
+ghost use Rattle.jet_window.specs.FrameMoves.{Moved, StopsAbove};
+ghost use Rattle.jet_window.specs.FrameStands.{FrameStands, FrameBag};
+ghost use Rattle.jet_window.specs.FrameTables.{frame_of, joined_in, IsKept};
+ghost use Rattle.jet_window.specs.LateEvents.{is_late};
+
+use crate::held::keep;
+use jet_boxes::{Outbox, Port, Processor};
+use jet_items::{Acc, Event, Frame, Item, Key, Late, Mark, NoMemory};
+use jet_policy::WinPolicy;
+use std::alloc::Global;
+use std::collections::BTreeMap;
+
+/// Joins the events of each frame and key, until a mark closes the frame: what a job's accumulate vertex does.
+///
+/// An event below the slide's greatest multiple that is at most the last mark is late: it is put as a late item of
+/// this vertex and is not counted. `held` has what is known of each open frame and key.
+#[derive(Drop)]
+pub struct FrameP {
+    vertex: u8,
+    policy: WinPolicy,
+    last: Option<Mark>,
+    held: BTreeMap<(i64, Key), Acc>,
+}
+
+// Whether an event stands below the frame that the last mark stands in.
+fn late(policy: &WinPolicy, last: Option<Mark>, ts: i64) -> bool
+    ensures { result ≡ is_late policy.now.slide last ts }
+{
+    match last {
+        None => false,
+        Some(mark) => ts < policy.floor(mark.t),
+    }
+}
+
+// Puts an item, and says whether there was room.
+fn put(out: &mut Outbox, item: Item) -> bool
+    ensures yes { result ≡ true → out.new ≡ record out.old { items = out.old.items ++ item ∷ [] } }
+    ensures none { result ≡ false → out.new ≡ out.old }
+    ensures full { result ≡ false → length out.old.items ≡ out.old.room }
+{
+    out.offer(item).is_ok()
+}
+
+impl FrameP {
+    /// A frame vertex of this number that has taken nothing.
+    pub fn new(alloc: Global, vertex: u8, policy: WinPolicy) -> FrameP
+        ensures vertex { result.vertex ≡ vertex }
+        ensures policy { result.policy ≡ policy }
+        ensures stands { FrameStands result.vertex result.policy.slide result.last result.held.entries [] [] }
+    {
+        FrameP {
+            vertex,
+            policy,
+            last: None,
+            held: BTreeMap::new(alloc),
+        }
+    }
+
+    // Puts the frames that end at most at `t`, and says whether all were put.
+    fn give_closed(&mut self, t: i64, out: &mut Outbox) -> bool
+        requires { IsKept self.old.held.entries }
+        ensures vertex { self.new.vertex ≡ self.old.vertex }
+        ensures policy { self.new.policy ≡ self.old.policy }
+        ensures last { self.new.last ≡ self.old.last }
+        ensures room { out.new.room ≡ out.old.room }
+        ensures moved { Moved self.old.vertex self.old.held.entries out.old.items self.new.held.entries out.new.items }
+        ensures stops { result ≡ true → StopsAbove t self.new.held.entries }
+        ensures full { result ≡ false → length out.new.items ≡ out.new.room }
+    {
+        while let Some((at, acc)) = self.held.first_key_value() {
+            if t < at.0 {
+                return true;
+            }
+            let frame = Frame {
+                vertex: self.vertex,
+                end: at.0,
+                key: at.1,
+                acc: *acc,
+            };
+            if let Err(_) = out.offer(Item::Frame(frame)) {
+                return false;
+            }
+            let _ = self.held.pop_first();
+        }
+        true
+    }
+}
+
+impl Processor for FrameP {
+    ghost stands = { λ p taken given. FrameStands p.vertex p.policy.slide p.last p.held.entries taken given };
+
+    ghost amid = { λ p taken entry given. FrameStands p.vertex p.policy.slide p.last p.held.entries taken given };
+
+    ghost takes = { λ p port queue. Unit {0} };
+
+    ghost same = { λ p q. (q.vertex ≡ p.vertex) × (q.policy ≡ p.policy) };
+
+    ghost frugal = { false };
+
+    ghost sound_if = { λ p behind taken. Sound behind (items_of taken) };
+
+    ghost closed_if = { λ p taken. ClosedItems (items_of taken) };
+
+    ghost bag = { λ p taken given. FrameBag p.vertex p.policy.slide (map (frame_of p.vertex) p.held.entries) taken given };
+
+    // A call that isn't ended has put only frames that were held, so its entry is not counted here.
+    ghost bag_amid = { λ p taken entry given. FrameBag p.vertex p.policy.slide (map (frame_of p.vertex) p.held.entries) taken given };
+
+    ghost marks = { λ p taken given. marks_of given ≡ marks_of (items_of taken) };
+
+    ghost marks_amid = { λ p taken entry given. marks_of given ≡ marks_of (items_of taken) };
+
+    fn accept(
+        &mut self,
+        _port: Port,
+        _queue: u32,
+        item: &Item,
+        out: &mut Outbox,
+    ) -> Result<bool, NoMemory> {
+        let Item::Event(event) = item else {
+            return Ok(put(out, *item));
+        };
+        let end = self.policy.frame_end(event.ts);
+        if late(&self.policy, self.last, event.ts) {
+            let item = Item::Late(Late {
+                vertex: self.vertex,
+                event: *event,
+            });
+            return Ok(put(out, item));
+        }
+        keep(&mut self.held, end, event.key, &Acc::one(event.v[0]))?;
+        Ok(true)
+    }
+
+    fn mark(&mut self, mark: Mark, out: &mut Outbox) -> Result<bool, NoMemory> {
+        if !self.give_closed(mark.t, out) {
+            return Ok(false);
+        }
+        if !put(out, Item::Mark(mark)) {
+            return Ok(false);
+        }
+        self.last = Some(mark);
+        Ok(true)
+    }
+
+    fn close_queue(&mut self, _port: Port, _queue: u32, _out: &mut Outbox) -> bool {
+        true
+    }
+
+    fn finish(&mut self, out: &mut Outbox) -> Result<bool, NoMemory> {
+        Ok(self.give_closed(i64::MAX, out))
+    }
+
+    ghost use Rattle.jet_window.specs.FrameLaws.{frame_sound, frame_sound_amid, frame_closed, frame_closed_amid, frame_open, frame_bag};
+
+    ghost same_refl = { λ p. (refl, refl) };
+
+    ghost same_trans = { λ p q r h k. (k.0 ∙ h.0, k.1 ∙ h.1) };
+
+    ghost takes_stays = { λ p q port queue h k. tt };
+
+    ghost begins = { λ p taken entry given h. h };
+
+    ghost sound_law = { λ behind p taken given h k. frame_sound behind p.vertex p.policy.slide p.last p.held.entries taken given h k };
+
+    ghost sound_law_amid = { λ behind p taken entry given h k. frame_sound_amid behind p.vertex p.policy.slide p.last p.held.entries taken entry given h k };
+
+    ghost closed_law = { λ p taken given h k. frame_closed p.vertex p.policy.slide p.last p.held.entries taken given h k };
+
+    ghost closed_law_amid = { λ p taken entry given h k. frame_closed_amid p.vertex p.policy.slide p.last p.held.entries taken entry given h k };
+
+    ghost open_law = { λ p taken given h k. frame_open p.vertex p.policy.slide p.last p.held.entries taken given h };
+
+    ghost open_law_amid = { λ p taken entry given h k. frame_open p.vertex p.policy.slide p.last p.held.entries taken given h };
+
+    ghost bag_law = { λ p taken given h. frame_bag p.vertex p.policy.slide p.last p.held.entries taken given h };
+
+    ghost bag_law_amid = { λ p taken entry given h. frame_bag p.vertex p.policy.slide p.last p.held.entries taken given h };
+
+    ghost marks_law = { λ p taken given h. h.marks };
+
+    ghost marks_law_amid = { λ p taken entry given h. h.marks };
+}
