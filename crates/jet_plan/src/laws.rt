@@ -1,0 +1,21 @@
+// Laws of what grows along the edges.
+ghost use Rattle.std.specs.Prelude.{◌≡◌, ℕ, List, IsTrue, false};
+ghost use Rattle.std.specs.List.{list_any};
+ghost use Rattle.jet_plan.specs.Along.{before};
+ghost use Rattle.jet_plan.specs.Growth.{is_cyclic, stream_edges, by_kind, longest_rule, longest_key, growth_rule, growth};
+ghost use Rattle.jet_plan.specs.Names.{has_name, AreKnown};
+
+use crate::Dag;
+
+/// A law: without a cycle the longest key and the growth at each vertex are what its kind makes of those at the vertices
+/// before it, over its stream inputs. So the number of steps over which they are defined is enough.
+pub fn measures_keep_the_rules(dag: &Dag)
+    requires known { AreKnown dag.now.vertices dag.now.edges }
+    requires acyclic { is_cyclic dag.now ≡ false }
+    ensures keys { (name : List ℕ) → IsTrue (list_any (has_name name) dag.now.vertices)
+        → longest_key dag.now name ≡ by_kind dag.now.vertices longest_rule 0 name (before (stream_edges dag.now) (longest_key dag.now) name) }
+    ensures events { (name : List ℕ) → IsTrue (list_any (has_name name) dag.now.vertices)
+        → growth dag.now name ≡ by_kind dag.now.vertices growth_rule 0 name (before (stream_edges dag.now) (growth dag.now) name) }
+{
+    let _dag = dag;
+}

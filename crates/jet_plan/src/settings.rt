@@ -1,0 +1,43 @@
+// The numbers that a job sets.
+ghost use Rattle.jet_plan.specs.Defaults.{defaults};
+
+/// The numbers that a job sets, each with its range.
+#[derive(Clone, Copy, Debug, PartialEq, Eq)]
+pub struct Settings {
+    /// Workers per member, 1 to 8.
+    pub workers: i64,
+    /// Members, 1 to 4.
+    pub members: i64,
+    /// Slots of a ring, 2 to 65536.
+    pub ring: i64,
+    /// Bytes of a packet at most, 256 to 65536.
+    pub packet: i64,
+    /// Bytes that may be sent and not yet acknowledged, 1 to 16777216.
+    pub window: i64,
+    /// Turns of a worker in an epoch, 1 to 1024.
+    pub turns: i64,
+    /// How far a source may read ahead of the slowest, 0 to 10^15, in the unit of the timestamps.
+    pub ahead: i64,
+    /// Lines of a file at most, 1 to 4294967294.
+    pub lines: i64,
+}
+
+impl Default for Settings {
+    ghost use Rattle.std.specs.Prelude.{◌≡◌};
+    ghost use Rattle.jet_plan.specs.Defaults.{defaults};
+
+    ghost is_default = { λ s. s ≡ defaults };
+
+    fn default() -> Self {
+        Settings {
+            workers: 2,
+            members: 1,
+            ring: 1024,
+            packet: 16_384,
+            window: 49_152,
+            turns: 64,
+            ahead: 10_000,
+            lines: 4_294_967_294,
+        }
+    }
+}
