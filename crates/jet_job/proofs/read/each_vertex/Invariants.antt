@@ -1,0 +1,9 @@
+use Rattle.std.proofs.Common.{◌≡◌, drop}
+use Rattle.serde_json.specs.View.{items_view}
+use Rattle.jet_job.specs.Members.{each_at}
+use Rattle.jet_job.specs.Vertices.{vertex_at}
+use Rattle.jet_job.proofs.Loops.{with_front}
+use Rattle.jet_job.proofs.read.each_vertex.Given as goal
+
+abbrev pub invariant-loop-i : goal.invariant-loop-i
+invariant-loop-i l = with_front l.vertices (each_at vertex_at l.i (items_view (drop l.i l.items))) ≡ each_at vertex_at 0 (items_view l.items)

@@ -1,0 +1,15 @@
+pub mod Edges
+pub mod FaultNumbers
+pub mod FieldNames
+pub mod Files
+pub mod Forms
+pub mod InForm
+pub mod Jobs
+pub mod Joints
+pub mod Kinds
+pub mod Legs
+pub mod Members
+pub mod Sets
+pub mod SettingsText
+pub mod Vertices
+pub mod Words
