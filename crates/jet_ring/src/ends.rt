@@ -37,6 +37,13 @@ impl<T> Tx<T> {
         }
     }
 
+    /// How many items may be sent before the next meeting.
+    pub fn free(&self) -> usize
+        ensures { result ≡ known_free self.now }
+    {
+        self.free
+    }
+
     /// Sends the item, or gives it back where no slot is known to be free. The receiver may have freed one since.
     pub fn offer(&mut self, item: T) -> Result<(), T>
         ensures ring { tx_ring self.new ≡ tx_ring self.old }

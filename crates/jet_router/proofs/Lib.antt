@@ -1,3 +1,5 @@
+pub mod Counting
+mod Dealing
 mod Each
 mod Gifts
 pub mod Lent

@@ -1,4 +1,5 @@
 pub mod Aim
+pub mod Deals
 pub mod Dest
 pub mod Gives
 pub mod Lending

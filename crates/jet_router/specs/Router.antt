@@ -1,5 +1,5 @@
 -- What a contract sees of a router.
-use Rattle.std.specs.Prelude.{◌≡◌, ◌≢◌, ℕ, ◌+◌, ◌-◌, ◌<◌, ◌≤◌, List, [], ◌∷◌, ◌++◌, map, Bool, true, false, get_or, set, length, ◌⊎◌, not, if◌then◌else◌, count_by}
+use Rattle.std.specs.Prelude.{◌≡◌, ◌≢◌, ℕ, ◌+◌, ◌-◌, ◌<◌, ◌≤◌, List, [], ◌∷◌, ◌++◌, map, Bool, true, false, get_or, set, length, ◌⊎◌, not, if◌then◌else◌, count_by, sum_by}
 use Rattle.jet_ring.specs.Ring as ring
 use Rattle.jet_items.specs.declared.item.Item.{Item}
 use Rattle.jet_router.specs.declared.aim.Route.{Route}
@@ -39,6 +39,13 @@ frees v = map (λ t. t.free) (txs v)
 
 abbrev pub reaches : View → List ℕ
 reaches v = map (λ t. length t.sent + t.free) (txs v)
+
+-- how many items were sent in all, and how many more can be before the next meetings
+abbrev pub sent_count : View → ℕ
+sent_count v = sum_by (λ t. length t.sent) (txs v)
+
+abbrev pub free_count : View → ℕ
+free_count v = sum_by (λ t. t.free) (txs v)
 
 -- whether each destination has had the item in hand
 abbrev pub hads : View → List Bool

@@ -31,14 +31,15 @@ pub struct Router {
 }
 
 impl Router {
-    ghost use Rattle.std.specs.Prelude.{◌≡◌, ◌≤◌, ◌<◌, ◌^◌, ◌+◌, ◌++◌, ◌↔◌, ℕ, get_or, [], ◌∷◌, map, false, true, vec_len, length, slice_get, slice_index, IfOk, IsOk, IsTrue, IsFalse, All};
+    ghost use Rattle.std.specs.Prelude.{◌≡◌, ◌≤◌, ◌<◌, ◌^◌, ◌+◌, ◌++◌, ◌↔◌, ℕ, List, get_or, [], ◌∷◌, map, false, true, vec_len, length, slice_get, slice_index, IfOk, IsOk, IsTrue, IsFalse, All};
     ghost use Rattle.std.specs.Borrow.{sem};
     ghost use mathlib.Core.List.{IsPrefix};
     ghost use Rattle.jet_ring.specs.Ring as ring;
     ghost use Rattle.jet_router.specs.Lending.{LendsTx};
     ghost use Rattle.jet_router.specs.Dest.{served, unserved, starts};
-    ghost use Rattle.jet_router.specs.Router.{view, owed_count, txs, rings, sents, frees, reaches, aim as aim_at, IsInHand, SentTo, TriedFirst, NoneFree, IsNew, SameRouter, Refreshed};
+    ghost use Rattle.jet_router.specs.Router.{view, owed_count, free_count, txs, rings, sents, frees, reaches, aim as aim_at, IsInHand, SentTo, TriedFirst, NoneFree, IsNew, SameRouter, Refreshed};
     ghost use Rattle.jet_router.specs.Gives.{Gives};
+    ghost use Rattle.jet_router.specs.Deals.{Deal, Dealt, DealtAfter, IsFull};
     ghost use Rattle.jet_router.specs.declared.Given.TheVariants.{All as GivenAll, Again};
     ghost use Rattle.jet_router.specs.declared.aim.Aim.TheVariants.{Any, Only};
 
@@ -105,6 +106,17 @@ impl Router {
         owed
     }
 
+    /// How many items its destinations can be sent in all before the next meetings.
+    pub fn free(&self) -> u128
+        ensures { result ≡ free_count (view self.now) }
+    {
+        let mut free = 0;
+        for dest in &self.dests {
+            free += dest.tx.free() as u128;
+        }
+        free
+    }
+
     /// The end of one destination, for a meeting with its other end.
     pub fn tx(&mut self, dest: u32) -> &mut Tx<Item>
         requires { dest < length (view self.old).dests }
@@ -126,6 +138,10 @@ impl Router {
         ensures same { SameRouter (view self.old) (view self.new) }
         ensures reach { reaches (view self.new) ≡ reaches (view self.old) }
         ensures fewer { (k : ℕ) → get_or (frees (view self.new)) k 0 ≤ get_or (frees (view self.old)) k 0 }
+
+        // beside all gifts before it
+        ensures dealt { (deals : List Deal) → Dealt (view self.old) deals → DealtAfter result (view self.new) deals item.now }
+        ensures stuck { result ≡ Again → IsFull (view self.new) item.now }
     {
         match aim_for(self.route, &self.table, item) {
             Aim::Each => self.give_each(item),
