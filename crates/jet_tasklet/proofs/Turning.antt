@@ -1,0 +1,275 @@
+-- How a turn goes, and why it may have nothing to do.
+use Rattle.std.proofs.Common.{◌≡◌, ◌<◌, ◌≤◌, ◌||◌, Bool, true, false, List, [], ◌∷◌, ◌++◌, length, inl, inr, refl, sym, ◌∙◌, ap, subst, append-nil, append_assoc, arith, length-append}
+use Rattle.std.specs.Prelude.{Some, None, Result, ◌⊎◌}
+use Rattle.std.specs.declared.vec.Vec.{Vec}
+use Rattle.std.specs.declared.alloc.Global.{Global}
+use Rattle.jet_items.specs.declared.item.Item.{Item}
+use Rattle.jet_items.specs.declared.item.Item.TheVariants as item
+use Rattle.jet_items.specs.declared.no_memory.NoMemory.{NoMemory}
+use Rattle.jet_boxes.specs.Entry.{Entry, Finish}
+use Rattle.jet_boxes.specs.Calls.{Call}
+use Rattle.jet_boxes.specs.Held.{Held}
+use Rattle.jet_tasklet.specs.declared.input.Input.{Input}
+use Rattle.jet_tasklet.specs.declared.output.Output.{Output}
+use Rattle.jet_tasklet.specs.declared.step.Step.{Step}
+use Rattle.jet_tasklet.specs.declared.step.Step.TheVariants as step
+use Rattle.jet_tasklet.specs.declared.step.Pending.{Pending}
+use Rattle.jet_tasklet.specs.declared.step.Pending.TheVariants as call
+use Rattle.jet_tasklet.specs.declared.tasklet.Tasklet.{Tasklet}
+use Rattle.jet_tasklet.specs.Inputs.{InputView, inputs_view, received_count}
+use Rattle.jet_tasklet.specs.Outputs.{OutputView, outputs_view, SomeBlocked, sent_count, Says}
+use Rattle.jet_tasklet.specs.Leaving.{IsStopped}
+use Rattle.jet_tasklet.specs.Steps.{entry_of, next_of, finale}
+use Rattle.jet_tasklet.specs.Taking.{NoneToTake}
+use Rattle.jet_tasklet.specs.Turning.{is_free, HasEnded, Worked, TakesNone, BeginsFinish, IsFull, IsOwed, IsBlocked, IsStarved, all_ended, Moves, IsStill}
+use Rattle.jet_tasklet.proofs.Keeping.{finale_next}
+
+-- lists that go on
+pub longer : (xs ys put : List Item) → ys ≡ xs ++ put → length xs ≤ length ys
+longer xs ys put is =
+    let sum = length-append xs put in
+    let count : length ys ≡ length (xs ++ put) = ap (λ (zs : List Item). length zs) is in
+    omega (arith, sum, count)
+
+pub empty_of : (xs : List Item) → length xs ≡ 0 → xs ≡ []
+empty_of [] e = refl
+empty_of (x ∷ xs) e = absurd (omega (arith, e))
+
+-- a call is followed by no end
+unended : (c : Pending) → next_of c ≡ step.Ended → ⊥
+unended (call.Accept a) e = absurd (cc)
+unended (call.Close port q None) e = absurd (cc)
+unended (call.Close port q (Some t)) e = absurd (cc)
+unended (call.Tell t) e = absurd (cc)
+unended call.Finish e = absurd (cc)
+
+module _ {P : Type 0} where
+  pub worked_refl : (t : Tasklet P) → Worked t t
+  worked_refl t = record {
+    inputs = refl;
+    outputs = refl;
+    room = refl;
+    puts = ([], sym (append-nil t.outbox.items));
+    finale_kept = refl;
+    ended = λ e. inl e;
+  }
+
+  pub worked_trans : (a b c : Tasklet P) → Worked a b → Worked b c → Worked a c
+  worked_trans a b c f g =
+      let first : length a.outbox.items ≤ length b.outbox.items = longer a.outbox.items b.outbox.items f.puts.0 f.puts.1 in
+      let second : length b.outbox.items ≤ length c.outbox.items = longer b.outbox.items c.outbox.items g.puts.0 g.puts.1 in
+      record {
+        inputs = g.inputs ∙ f.inputs;
+        outputs = g.outputs ∙ f.outputs;
+        room = g.room ∙ f.room;
+        puts = (f.puts.0 ++ g.puts.0, g.puts.1 ∙ (ap (λ (xs : List Item). xs ++ g.puts.0) f.puts.1 ∙ append_assoc a.outbox.items f.puts.0 g.puts.0));
+        finale_kept = g.finale_kept ∙ f.finale_kept;
+        ended = λ e. elim (g.ended e) [
+          | inl was ↦ elim (f.ended was) [ inl is ↦ inl is | inr lt ↦ inr (omega (arith, lt, second)) ]
+          | inr lt ↦ inr (omega (arith, lt, first))
+        ];
+      }
+
+  -- a call was made, and has answered true or is to be made again
+  pub worked_make : {stands : P → List Entry → List Item → Type 0} {amid : P → List Entry → Entry → List Item → Type 0} {same : P → P → Type 0} {frugal : Bool} (t : Tasklet P) (p : P) (out : Held) (c : Pending) (r : Result Bool NoMemory) (s : Step) → t.step ≡ step.Make c → Call stands amid same frugal t.processor (entry_of c) t.outbox r p out → (s ≡ step.Make c) ⊎ (s ≡ next_of c) → Worked t (record { processor = p; inputs = t.inputs; outputs = t.outputs; coalescer = t.coalescer; step = s; outbox = out })
+  worked_make t p out c r s is did next =
+      let kept : finale (step.Make c) ≡ finale t.step = ap finale (sym is) in
+      record {
+        inputs = refl;
+        outputs = refl;
+        room = did.room;
+        puts = (did.put, did.puts);
+        finale_kept = elim next [
+          | inl stays ↦ ap finale stays ∙ kept
+          | inr goes ↦ ap finale goes ∙ (finale_next c ∙ kept)
+        ];
+        ended = λ e. elim next [
+          | inl stays ↦ absurd (cc (e, stays))
+          | inr goes ↦ absurd (unended c (sym goes ∙ e))
+        ];
+      }
+
+  -- Done was put
+  pub worked_put : (t : Tasklet P) (out : Held) (s : Step) → t.step ≡ step.End → s ≡ step.Ended → out ≡ record { room = t.outbox.room; items = t.outbox.items ++ item.Done ∷ [] } → Worked t (record { processor = t.processor; inputs = t.inputs; outputs = t.outputs; coalescer = t.coalescer; step = s; outbox = out })
+  worked_put t out s is now put =
+      let items : out.items ≡ t.outbox.items ++ item.Done ∷ [] = ap (λ (h : Held). h.items) put in
+      let count : length out.items ≡ length (t.outbox.items ++ item.Done ∷ []) = ap (λ (xs : List Item). length xs) items in
+      let sum = length-append t.outbox.items (item.Done ∷ []) in
+      record {
+        inputs = refl;
+        outputs = refl;
+        room = ap (λ (h : Held). h.room) put;
+        puts = (item.Done ∷ [], items);
+        finale_kept = ap finale now ∙ ap finale (sym is);
+        ended = λ e. inr (omega (arith, count, sum));
+      }
+
+  -- nothing was there to take
+  pub worked_none : (t : Tasklet P) (ins : Vec Input Global) → inputs_view ins.items ≡ inputs_view t.inputs.items → Worked t (record { processor = t.processor; inputs = ins; outputs = t.outputs; coalescer = t.coalescer; step = t.step; outbox = t.outbox })
+  worked_none t ins same = record {
+    inputs = same;
+    outputs = refl;
+    room = refl;
+    puts = ([], sym (append-nil t.outbox.items));
+    finale_kept = refl;
+    ended = λ e. inl e;
+  }
+
+-- what is free once the finish is begun has ended, and else takes items
+free_last : (s : Step) → is_free s ≡ true → finale s ≡ Finish ∷ [] → s ≡ step.Ended
+free_last step.Poll f e = absurd (cc)
+free_last (step.Make c) f e = absurd (cc)
+free_last step.End f e = absurd (cc)
+free_last step.Ended f e = refl
+
+free_poll : (s : Step) → is_free s ≡ true → finale s ≡ [] → s ≡ step.Poll
+free_poll step.Poll f e = refl
+free_poll (step.Make c) f e = absurd (cc)
+free_poll step.End f e = absurd (cc)
+free_poll step.Ended f e = absurd (cc)
+
+true_unless : (b : Bool) (F : Type 0) → (b ≡ false → F) → (F → ⊥) → b ≡ true
+true_unless true F f never = refl
+true_unless false F f never = absurd (never (f refl))
+
+owed_unless : (xs ys put : List Item) (os ps : List OutputView) → IsStopped xs os → ys ≡ xs ++ put → ps ≡ os → (xs ≡ []) ⊎ IsOwed ys ps
+owed_unless [] ys put os ps stops is same = inl refl
+owed_unless (x ∷ xs) ys put os ps stops is same = inr (subst (λ (zs : List Item). IsOwed zs ps) (sym is) (subst (λ (qs : List OutputView). SomeBlocked x qs) (sym same) stops))
+
+module _ {P : Type 0} where
+  -- the rest of a turn that put nothing, after the outbox was found empty and no item was taken
+  starves : (a b c d : Tasklet P) (ok : Bool) → a.outbox.items ≡ [] → 1 ≤ a.outbox.room → (a.step ≡ step.Ended → ⊥) → Worked a b → TakesNone b → BeginsFinish b c → Worked c d → (ok ≡ true → is_free d.step ≡ true) → (ok ≡ false → IsFull d.outbox) → c.outbox ≡ b.outbox → length d.outbox.items ≡ 0 → IsStarved d
+  starves a b c d ok none roomy going first takes begins second free full box sent =
+      let empty : length a.outbox.items ≡ 0 = ap (λ (xs : List Item). length xs) none in
+      let items : c.outbox.items ≡ b.outbox.items = ap (λ (h : Held). h.items) box in
+      let rooms : c.outbox.room ≡ b.outbox.room = ap (λ (h : Held). h.room) box in
+      let more : length c.outbox.items ≤ length d.outbox.items = longer c.outbox.items d.outbox.items second.puts.0 second.puts.1 in
+      let count : length c.outbox.items ≡ length b.outbox.items = ap (λ (xs : List Item). length xs) items in
+      let room_b : b.outbox.room ≡ a.outbox.room = first.room in
+      let room_d : d.outbox.room ≡ c.outbox.room = second.room in
+      let unfull : IsFull d.outbox → ⊥ = λ is. absurd (omega (arith, is, sent, room_d, rooms, room_b, roomy)) in
+      let ended : ok ≡ true = true_unless ok (IsFull d.outbox) full unfull in
+      elim takes [
+        | inl is ↦ let is_full : length b.outbox.items ≡ b.outbox.room = is in absurd (omega (arith, is_full, count, more, sent, room_b, roomy))
+        | inr rest ↦ elim rest [
+          | inl last ↦ elim (first.ended last) [ inl was ↦ absurd (going was) | inr lt ↦ absurd (omega (arith, lt, count, more, sent)) ]
+          | inr polls ↦ elim begins [
+            | inl is ↦
+                let begun : c.step ≡ step.Make call.Finish = ap (λ (t : Tasklet P). t.step) is in
+                let over : d.step ≡ step.Ended = free_last d.step (free ended) (second.finale_kept ∙ ap finale begun) in
+                elim (second.ended over) [ inl was ↦ absurd (cc (was, begun)) | inr lt ↦ absurd (omega (arith, lt, sent)) ]
+            | inr stays ↦
+                let was : c.step ≡ step.Poll = ap (λ (t : Tasklet P). t.step) stays.0 ∙ polls.0 in
+                let same : inputs_view d.inputs.items ≡ inputs_view b.inputs.items = second.inputs ∙ ap (λ (t : Tasklet P). inputs_view t.inputs.items) stays.0 in
+                record {
+                  sent = empty_of d.outbox.items sent;
+                  free = free_poll d.step (free ended) (second.finale_kept ∙ ap finale was);
+                  waits = subst (λ (vs : List InputView). all_ended vs ≡ false) (sym same) (stays.1 polls.0);
+                  none = subst (λ (vs : List InputView). NoneToTake vs) (sym same) polls.1;
+                }
+          ]
+        ]
+      ]
+
+  box_kept : (b c : Tasklet P) → BeginsFinish b c → (c.outbox ≡ b.outbox) × (c.outputs ≡ b.outputs)
+  box_kept b c begins = elim begins [
+    | inl is ↦ (ap (λ (t : Tasklet P). t.outbox) is, ap (λ (t : Tasklet P). t.outputs) is)
+    | inr stays ↦ (ap (λ (t : Tasklet P). t.outbox) stays.0, ap (λ (t : Tasklet P). t.outputs) stays.0)
+  ]
+
+  -- a turn after which the outbox is as long as it was before, and in which no item was taken
+  pub idles : (o a b c d : Tasklet P) (ok : Bool) → (HasEnded o → ⊥) → a.step ≡ o.step → length o.outbox.items ≤ length a.outbox.items → 1 ≤ a.outbox.room → IsStopped a.outbox.items (outputs_view a.outputs.items) → Worked a b → TakesNone b → BeginsFinish b c → Worked c d → (ok ≡ true → is_free d.step ≡ true) → (ok ≡ false → IsFull d.outbox) → length d.outbox.items ≤ length a.outbox.items → IsBlocked d ⊎ IsStarved d
+  idles o a b c d ok going step_is before roomy stops first takes begins second free full after =
+      let kept = box_kept b c begins in
+      let items : c.outbox.items ≡ b.outbox.items = ap (λ (h : Held). h.items) kept.0 in
+      let put : d.outbox.items ≡ a.outbox.items ++ (first.puts.0 ++ second.puts.0) = second.puts.1 ∙ (ap (λ (xs : List Item). xs ++ second.puts.0) (items ∙ first.puts.1) ∙ append_assoc a.outbox.items first.puts.0 second.puts.0) in
+      let outs : outputs_view d.outputs.items ≡ outputs_view a.outputs.items = ap (λ (v : Vec Output Global). outputs_view v.items) (second.outputs ∙ (kept.1 ∙ first.outputs)) in
+      elim (owed_unless a.outbox.items d.outbox.items (first.puts.0 ++ second.puts.0) (outputs_view a.outputs.items) (outputs_view d.outputs.items) stops put outs) [
+        | inr blocked ↦ inl blocked
+        | inl none ↦
+            let empty : length a.outbox.items ≡ 0 = ap (λ (xs : List Item). length xs) none in
+            let was : length o.outbox.items ≡ 0 = omega (arith, empty, before) in
+            let sent : length d.outbox.items ≡ 0 = omega (arith, empty, after) in
+            inr (starves a b c d ok none roomy (λ e. going (sym step_is ∙ e, empty_of o.outbox.items was)) first takes begins second free full kept.0 sent)
+      ]
+
+nothing_left : (left xs ys : List Item) → ys ≡ left ++ xs → length ys ≤ length xs → ys ≡ xs
+nothing_left [] xs ys is le = is
+nothing_left (x ∷ left) xs ys is le =
+    let count : length ys ≡ length (x ∷ (left ++ xs)) = ap (λ (zs : List Item). length zs) is in
+    let sum = length-append left xs in
+    absurd (omega (arith, count, sum, le))
+
+nothing_put : (put xs ys : List Item) → ys ≡ xs ++ put → length ys ≤ length xs → ys ≡ xs
+nothing_put [] xs ys is le = is ∙ append-nil xs
+nothing_put (x ∷ put) xs ys is le =
+    let count : length ys ≡ length (xs ++ x ∷ put) = ap (λ (zs : List Item). length zs) is in
+    let sum = length-append xs (x ∷ put) in
+    absurd (omega (arith, count, sum, le))
+
+or_cases : (a b : Bool) → (a || b) ≡ true → (a ≡ true) ⊎ (b ≡ true)
+or_cases true b e = inl refl
+or_cases false b e = inr e
+
+pub none_of : (a b : Bool) → (a || b) ≡ false → (a ≡ false) × (b ≡ false)
+none_of true b e = absurd (cc)
+none_of false b e = (refl, e)
+
+module _ {P : Type 0} where
+  outputs_on : (a b c d : Tasklet P) → b.outputs ≡ a.outputs → BeginsFinish b c → Worked c d → sent_count (outputs_view d.outputs.items) ≡ sent_count (outputs_view a.outputs.items)
+  outputs_on a b c d same begins after = ap (λ (v : Vec Output Global). sent_count (outputs_view v.items)) (after.outputs ∙ ((box_kept b c begins).1 ∙ same))
+
+  inputs_on : (b c d : Tasklet P) → BeginsFinish b c → Worked c d → inputs_view d.inputs.items ≡ inputs_view b.inputs.items
+  inputs_on b c d begins after = after.inputs ∙ elim begins [
+    | inl is ↦ ap (λ (t : Tasklet P). inputs_view t.inputs.items) is
+    | inr stays ↦ ap (λ (t : Tasklet P). inputs_view t.inputs.items) stays.0
+  ]
+
+  items_on : (a b c d : Tasklet P) → Worked a b → BeginsFinish b c → Worked c d → (put : List Item) × (d.outbox.items ≡ a.outbox.items ++ put)
+  items_on a b c d first begins second =
+      let items : c.outbox.items ≡ b.outbox.items = ap (λ (h : Held). h.items) (box_kept b c begins).0 in (
+        first.puts.0 ++ second.puts.0,
+        second.puts.1 ∙ (ap (λ (xs : List Item). xs ++ second.puts.0) (items ∙ first.puts.1) ∙ append_assoc a.outbox.items first.puts.0 second.puts.0),
+      )
+
+  pub rooms_on : (a b c d : Tasklet P) → Worked a b → BeginsFinish b c → Worked c d → d.outbox.room ≡ a.outbox.room
+  rooms_on a b c d first begins second = second.room ∙ (ap (λ (h : Held). h.room) (box_kept b c begins).0 ∙ first.room)
+
+  -- a turn in which something was pushed, something was taken, or the outbox changed
+  pub moving : (o a b c d : Tasklet P) (p q r s : Bool) → Says p (sent_count (outputs_view o.outputs.items)) (sent_count (outputs_view a.outputs.items)) → Says q (received_count (inputs_view a.inputs.items)) (received_count (inputs_view b.inputs.items)) → a.inputs ≡ o.inputs → b.outputs ≡ a.outputs → (left : List Item) × (o.outbox.items ≡ left ++ a.outbox.items) → (q ≡ false → Worked a b) → BeginsFinish b c → Worked c d → (r ≡ true → length a.outbox.items < length o.outbox.items) → (q ≡ false → s ≡ true → length a.outbox.items < length d.outbox.items) → (((p || q) || r) || s) ≡ true → Moves o d
+  moving o a b c d true q r s pushed took ins outs left first begins second fewer more is =
+      let same = outputs_on a b c d outs begins second in
+      let lt : sent_count (outputs_view o.outputs.items) < sent_count (outputs_view a.outputs.items) = pushed in
+      inl (omega (arith, same, lt))
+  moving o a b c d false true r s pushed took ins outs left first begins second fewer more is =
+      let same : received_count (inputs_view d.inputs.items) ≡ received_count (inputs_view b.inputs.items) = ap received_count (inputs_on b c d begins second) in
+      let start : received_count (inputs_view a.inputs.items) ≡ received_count (inputs_view o.inputs.items) = ap (λ (v : Vec Input Global). received_count (inputs_view v.items)) ins in
+      let lt : received_count (inputs_view a.inputs.items) < received_count (inputs_view b.inputs.items) = took in
+      inr (inl (omega (arith, same, start, lt)))
+  moving o a b c d false false r s pushed took ins outs left first begins second fewer more is =
+      let puts = items_on a b c d (first refl) begins second in
+      let gone = length-append left.0 a.outbox.items in
+      let was : length o.outbox.items ≡ length (left.0 ++ a.outbox.items) = ap (λ (xs : List Item). length xs) left.1 in
+      let come = length-append a.outbox.items puts.0 in
+      let now : length d.outbox.items ≡ length (a.outbox.items ++ puts.0) = ap (λ (xs : List Item). length xs) puts.1 in
+      inr (inr (record {
+        left = left.0;
+        stay = a.outbox.items;
+        put = puts.0;
+        was = left.1;
+        is = puts.1;
+        some = elim (or_cases r s is) [
+          | inl e ↦ let lt = fewer e in omega (arith, gone, was, lt)
+          | inr e ↦ let lt = more refl e in omega (arith, come, now, lt)
+        ];
+      }))
+
+  -- a turn in which none of these was
+  pub stilled : (o a b c d : Tasklet P) → sent_count (outputs_view a.outputs.items) ≡ sent_count (outputs_view o.outputs.items) → a.inputs ≡ o.inputs → (left : List Item) × (o.outbox.items ≡ left ++ a.outbox.items) → Worked a b → BeginsFinish b c → Worked c d → length o.outbox.items ≤ length a.outbox.items → length d.outbox.items ≤ length a.outbox.items → IsStill o d
+  stilled o a b c d pushed ins left first begins second fewer more =
+      let puts = items_on a b c d first begins second in
+      record {
+        sent = outputs_on a b c d first.outputs begins second ∙ pushed;
+        inputs = inputs_on b c d begins second ∙ (first.inputs ∙ ap (λ (v : Vec Input Global). inputs_view v.items) ins);
+        outbox = nothing_put puts.0 a.outbox.items d.outbox.items puts.1 more ∙ sym (nothing_left left.0 a.outbox.items o.outbox.items left.1 fewer);
+      }

@@ -1,0 +1,11 @@
+use Rattle.std.proofs.Common.{◌≡◌, ◌≤◌}
+use Rattle.jet_tasklet.specs.Inputs.{inputs_view, received_count}
+use Rattle.jet_tasklet.specs.Keeps.{Goes}
+use Rattle.jet_tasklet.proofs.tasklet.Tasklet.take_items.Given as goal
+
+abbrev pub invariant-items : goal.invariant-items
+invariant-items g l = record {
+  keeps : Goes g.P.Processor.stands g.P.Processor.amid g.P.Processor.takes l.initial.self l.self;
+  took : received_count (inputs_view l.initial.self.inputs.items) ≤ received_count (inputs_view l.self.inputs.items);
+  outputs : l.self.outputs ≡ l.initial.self.outputs;
+}

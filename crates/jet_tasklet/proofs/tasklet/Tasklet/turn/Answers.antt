@@ -1,0 +1,112 @@
+use Rattle.std.proofs.Common.{◌≡◌, Bool, true, ◌||◌, nat_lt, ap, subst, arith, ltb-true, ltb-false}
+use Rattle.std.specs.Prelude.{Ok}
+use Rattle.jet_tasklet.specs.Outputs.{outputs_view, sent_count, Says}
+use Rattle.jet_tasklet.proofs.Turning.{moving, stilled, idles, none_of, rooms_on}
+use Rattle.jet_tasklet.proofs.Keeping.{goes_refl, goes_trans, lawful_goes}
+use Rattle.jet_tasklet.proofs.tasklet.Tasklet.turn.Goals as goal
+
+pub returns-then-has_ended-clause-keeps : goal.returns-then-has_ended-clause-keeps
+returns-then-has_ended-clause-keeps g c = goes_refl g.P.Processor.stands g.P.Processor.amid g.P.Processor.takes g.met.P.Processor.begins c.args.self.now
+
+pub take_items-requires : goal.take_items-requires
+take_items-requires g c = record { keeps = lawful_goes g.P.Processor.stands g.P.Processor.amid g.P.Processor.takes g.met.P.Processor.begins c.args.self.now c.give-pushed.new.self c.requires.keeps c.give-pushed.ensures.keeps }
+
+pub returns-in_err-took-clause-keeps : goal.returns-in_err-took-clause-keeps
+returns-in_err-took-clause-keeps g c = goes_trans g.P.Processor.stands g.P.Processor.amid g.P.Processor.takes g.met.P.Processor.begins c.args.self.now c.give-pushed.new.self c.take_items.new.self c.give-pushed.ensures.keeps c.take_items.ensures.keeps
+
+pub work-requires : goal.work-requires
+work-requires g c =
+    let took = goes_trans g.P.Processor.stands g.P.Processor.amid g.P.Processor.takes g.met.P.Processor.begins c.args.self.now c.give-pushed.new.self c.take_items.new.self c.give-pushed.ensures.keeps c.take_items.ensures.keeps in
+    let begun = goes_trans g.P.Processor.stands g.P.Processor.amid g.P.Processor.takes g.met.P.Processor.begins c.args.self.now c.take_items.new.self c.begin_finish.new.self took c.begin_finish.ensures.keeps in
+    record { keeps = lawful_goes g.P.Processor.stands g.P.Processor.amid g.P.Processor.takes g.met.P.Processor.begins c.args.self.now c.begin_finish.new.self c.requires.keeps begun }
+
+pub returns-in_err-work-clause-keeps : goal.returns-in_err-work-clause-keeps
+returns-in_err-work-clause-keeps g c =
+    let took = goes_trans g.P.Processor.stands g.P.Processor.amid g.P.Processor.takes g.met.P.Processor.begins c.args.self.now c.give-pushed.new.self c.take_items.new.self c.give-pushed.ensures.keeps c.take_items.ensures.keeps in
+    let begun = goes_trans g.P.Processor.stands g.P.Processor.amid g.P.Processor.takes g.met.P.Processor.begins c.args.self.now c.take_items.new.self c.begin_finish.new.self took c.begin_finish.ensures.keeps in
+    goes_trans g.P.Processor.stands g.P.Processor.amid g.P.Processor.takes g.met.P.Processor.begins c.args.self.now c.begin_finish.new.self c.work.new.self begun c.work.ensures.keeps
+
+pub returns-then-moved-clause-keeps : goal.returns-then-moved-clause-keeps
+returns-then-moved-clause-keeps g c =
+    let took = goes_trans g.P.Processor.stands g.P.Processor.amid g.P.Processor.takes g.met.P.Processor.begins c.args.self.now c.give-pushed.new.self c.take_items.new.self c.give-pushed.ensures.keeps c.take_items.ensures.keeps in
+    let begun = goes_trans g.P.Processor.stands g.P.Processor.amid g.P.Processor.takes g.met.P.Processor.begins c.args.self.now c.take_items.new.self c.begin_finish.new.self took c.begin_finish.ensures.keeps in
+    goes_trans g.P.Processor.stands g.P.Processor.amid g.P.Processor.takes g.met.P.Processor.begins c.args.self.now c.begin_finish.new.self c.work.new.self begun c.work.ensures.keeps
+
+pub returns-else-moved-clause-keeps : goal.returns-else-moved-clause-keeps
+returns-else-moved-clause-keeps g c =
+    let took = goes_trans g.P.Processor.stands g.P.Processor.amid g.P.Processor.takes g.met.P.Processor.begins c.args.self.now c.give-pushed.new.self c.take_items.new.self c.give-pushed.ensures.keeps c.take_items.ensures.keeps in
+    let begun = goes_trans g.P.Processor.stands g.P.Processor.amid g.P.Processor.takes g.met.P.Processor.begins c.args.self.now c.take_items.new.self c.begin_finish.new.self took c.begin_finish.ensures.keeps in
+    goes_trans g.P.Processor.stands g.P.Processor.amid g.P.Processor.takes g.met.P.Processor.begins c.args.self.now c.begin_finish.new.self c.work.new.self begun c.work.ensures.keeps
+
+pub returns-then-moved-clause-moved : goal.returns-then-moved-clause-moved
+returns-then-moved-clause-moved g c = λ e.
+    let o = c.args.self.now in
+    let a = c.give-pushed.new.self in
+    let d = c.work.new.self in
+    let before = c.free-before.ensures in
+    let room = c.free-room.ensures in
+    let after = c.free-after.ensures in
+    let given = c.give-pushed.ensures.room in
+    moving o a c.take_items.new.self c.begin_finish.new.self d c.give-pushed.result c.in_ok-took.took (nat_lt c.free-before.result c.free-room.result) (nat_lt c.free-after.result c.free-room.result) c.give-pushed.ensures.pushed c.in_ok-took.ensures.took c.give-pushed.ensures.inputs c.take_items.ensures.outputs c.give-pushed.ensures.left (λ none. (c.in_ok-took.ensures.none (ap Ok none)).0) c.begin_finish.ensures.begins c.work.ensures.worked
+    (λ r. let lt = ltb-true c.free-before.result c.free-room.result r in omega (arith, lt, before, room, given))
+    (λ none s.
+    let rooms = rooms_on a c.take_items.new.self c.begin_finish.new.self d (c.in_ok-took.ensures.none (ap Ok none)).0 c.begin_finish.ensures.begins c.work.ensures.worked in
+    let lt = ltb-true c.free-after.result c.free-room.result s in omega (arith, lt, after, room, rooms))
+    c.if-moved.true
+
+pub returns-else-moved-clause-still : goal.returns-else-moved-clause-still
+returns-else-moved-clause-still g c = λ e.
+    let o = c.args.self.now in
+    let a = c.give-pushed.new.self in
+    let d = c.work.new.self in
+    let p = c.give-pushed.result in
+    let q = c.in_ok-took.took in
+    let r = nat_lt c.free-before.result c.free-room.result in
+    let s = nat_lt c.free-after.result c.free-room.result in
+    let e1 = none_of ((p || q) || r) s c.if-moved.false in
+    let e2 = none_of (p || q) r e1.0 in
+    let e3 = none_of p q e2.0 in
+    let before = c.free-before.ensures in
+    let room = c.free-room.ensures in
+    let after = c.free-after.ensures in
+    let given = c.give-pushed.ensures.room in
+    let worked = (c.in_ok-took.ensures.none (ap Ok e3.1)).0 in
+    let rooms = rooms_on a c.take_items.new.self c.begin_finish.new.self d worked c.begin_finish.ensures.begins c.work.ensures.worked in
+    let fewer = ltb-false c.free-before.result c.free-room.result e2.1 in
+    let more = ltb-false c.free-after.result c.free-room.result e1.1 in
+    stilled o a c.take_items.new.self c.begin_finish.new.self d
+    (subst (λ (b : Bool). Says b (sent_count (outputs_view o.outputs.items)) (sent_count (outputs_view a.outputs.items))) e3.0 c.give-pushed.ensures.pushed)
+    c.give-pushed.ensures.inputs c.give-pushed.ensures.left worked c.begin_finish.ensures.begins c.work.ensures.worked
+    (omega (arith, fewer, before, room, given))
+    (omega (arith, more, after, room, rooms))
+
+pub returns-else-moved-clause-idle : goal.returns-else-moved-clause-idle
+returns-else-moved-clause-idle g c = λ e.
+    let o = c.args.self.now in
+    let a = c.give-pushed.new.self in
+    let d = c.work.new.self in
+    let p = c.give-pushed.result in
+    let q = c.in_ok-took.took in
+    let r = nat_lt c.free-before.result c.free-room.result in
+    let s = nat_lt c.free-after.result c.free-room.result in
+    let e1 = none_of ((p || q) || r) s c.if-moved.false in
+    let e2 = none_of (p || q) r e1.0 in
+    let e3 = none_of p q e2.0 in
+    let before = c.free-before.ensures in
+    let room = c.free-room.ensures in
+    let after = c.free-after.ensures in
+    let given = c.give-pushed.ensures.room in
+    let roomy = c.requires.keeps.keeps.room in
+    let none = c.in_ok-took.ensures.none (ap Ok e3.1) in
+    let rooms = rooms_on a c.take_items.new.self c.begin_finish.new.self d none.0 c.begin_finish.ensures.begins c.work.ensures.worked in
+    let fewer = ltb-false c.free-before.result c.free-room.result e2.1 in
+    let more = ltb-false c.free-after.result c.free-room.result e1.1 in
+    idles o a c.take_items.new.self c.begin_finish.new.self d c.in_ok-work.field-0
+    (λ h. let is : c.has_ended.result ≡ true = c.has_ended.ensures.1 h in absurd (cc (is, c.if-has_ended.false)))
+    c.give-pushed.ensures.step
+    (omega (arith, fewer, before, room, given))
+    (omega (arith, roomy, given))
+    c.give-pushed.ensures.stops none.0 none.1 c.begin_finish.ensures.begins c.work.ensures.worked
+    (λ t. c.in_ok-work.ensures.free (ap Ok t))
+    (λ f. c.in_ok-work.ensures.full (ap Ok f))
+    (omega (arith, more, after, room, rooms))

@@ -1,0 +1,27 @@
+use Rattle.jet_tasklet.proofs.Keeping.{goes_refl, goes_trans, lawful_goes}
+use Rattle.jet_tasklet.proofs.Turning.{worked_refl, worked_trans}
+use Rattle.jet_tasklet.proofs.tasklet.Tasklet.work.Goals as goal
+
+pub calls-init : goal.calls-init
+calls-init g c = record { keeps = goes_refl g.P.Processor.stands g.P.Processor.amid g.P.Processor.takes g.met.P.Processor.begins c.args.self.now; worked = worked_refl c.args.self.now }
+
+pub advance-requires-clause-keeps : goal.advance-requires-clause-keeps
+advance-requires-clause-keeps g c = lawful_goes g.P.Processor.stands g.P.Processor.amid g.P.Processor.takes g.met.P.Processor.begins c.args.self.now c.calls.self c.requires.keeps c.calls.invariant.keeps
+
+pub returns-in_err-advance-clause-keeps : goal.returns-in_err-advance-clause-keeps
+returns-in_err-advance-clause-keeps g c = goes_trans g.P.Processor.stands g.P.Processor.amid g.P.Processor.takes g.met.P.Processor.begins c.args.self.now c.calls.self c.advance.new.self c.calls.invariant.keeps c.advance.ensures.keeps
+
+pub returns-then-not-branch-clause-keeps : goal.returns-then-not-branch-clause-keeps
+returns-then-not-branch-clause-keeps g c = goes_trans g.P.Processor.stands g.P.Processor.amid g.P.Processor.takes g.met.P.Processor.begins c.args.self.now c.calls.self c.advance.new.self c.calls.invariant.keeps c.advance.ensures.keeps
+
+pub calls-preserved : goal.calls-preserved
+calls-preserved g c = record {
+  keeps = goes_trans g.P.Processor.stands g.P.Processor.amid g.P.Processor.takes g.met.P.Processor.begins c.args.self.now c.calls.self c.advance.new.self c.calls.invariant.keeps c.advance.ensures.keeps;
+  worked = worked_trans c.args.self.now c.calls.self c.advance.new.self c.calls.invariant.worked c.advance.ensures.worked;
+}
+
+pub returns-in_err-advance-clause-worked : goal.returns-in_err-advance-clause-worked
+returns-in_err-advance-clause-worked g c = worked_trans c.args.self.now c.calls.self c.advance.new.self c.calls.invariant.worked c.advance.ensures.worked
+
+pub returns-then-not-branch-clause-worked : goal.returns-then-not-branch-clause-worked
+returns-then-not-branch-clause-worked g c = worked_trans c.args.self.now c.calls.self c.advance.new.self c.calls.invariant.worked c.advance.ensures.worked

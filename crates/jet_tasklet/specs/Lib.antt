@@ -1,0 +1,13 @@
+pub mod InOrder
+pub mod Inputs
+pub mod Keeps
+pub mod Leaving
+pub mod Lending
+pub mod Merging
+pub mod Noting
+pub mod Outputs
+pub mod Sending
+pub mod Steps
+pub mod Taking
+pub mod Trace
+pub mod Turning

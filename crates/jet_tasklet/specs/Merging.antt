@@ -1,0 +1,36 @@
+-- What came from all queues together, and the last mark that was told.
+use Rattle.std.specs.Prelude.{ℤ, List, [], ◌∷◌, Option, Some, None, fold, get_or}
+use Rattle.std.specs.List.{flat_map}
+use Rattle.jet_items.specs.declared.item.Item.{Item}
+use Rattle.jet_items.specs.declared.item.Item.TheVariants as item
+use Rattle.jet_items.specs.Bag.{all_of}
+use Rattle.jet_boxes.specs.declared.port.Port.{Port}
+use Rattle.jet_boxes.specs.Entry.{Entry, Given, Told, Closed, Finish}
+use Rattle.jet_tasklet.specs.Inputs.{InputView, received, queue_count}
+
+-- data alone: neither a mark nor the end
+abbrev pub as_data : Item → List Item
+as_data (item.Event e) = item.Event e ∷ []
+as_data (item.Side s) = item.Side s ∷ []
+as_data (item.Frame f) = item.Frame f ∷ []
+as_data (item.Row r) = item.Row r ∷ []
+as_data (item.Late l) = item.Late l ∷ []
+as_data (item.Mark m) = []
+as_data item.Done = []
+
+abbrev pub data_of : List Item → List Item
+data_of xs = flat_map as_data xs
+
+-- the data that the queues of a port received, queue by queue
+abbrev pub data_received : Port → List InputView → List Item
+data_received port inputs = all_of (queue_count port inputs) (λ q. data_of (get_or (received port inputs) q []))
+
+-- the last mark told, if there is one
+abbrev pub told_or : Option ℤ → Entry → Option ℤ
+told_or last (Given port q x) = last
+told_or last (Told t) = Some t
+told_or last (Closed port q) = last
+told_or last Finish = last
+
+abbrev pub last_told : List Entry → Option ℤ
+last_told entries = fold told_or None entries

@@ -1,0 +1,26 @@
+// The call that is pending.
+ghost use Rattle.jet_boxes.specs.Calls.{Call, MayCall};
+ghost use Rattle.jet_tasklet.specs.Steps.{entry_of};
+
+use crate::step::Pending;
+use jet_boxes::{Outbox, Processor};
+use jet_items::NoMemory;
+
+/// Makes one call.
+pub(crate) fn call<P: Processor>(
+    processor: &mut P,
+    pending: &Pending,
+    out: &mut Outbox,
+) -> Result<bool, NoMemory>
+    requires { MayCall P.amid (P.takes processor.old) processor.old (entry_of pending.now) }
+    ensures { Call P.stands P.amid P.same P.frugal processor.old (entry_of pending.now) out.old result processor.new out.new }
+{
+    match pending {
+        Pending::Accept(arrival) => {
+            processor.accept(arrival.port, arrival.queue, &arrival.item, out)
+        }
+        Pending::Close(port, queue, _) => Ok(processor.close_queue(*port, *queue, out)),
+        Pending::Tell(mark) => processor.mark(*mark, out),
+        Pending::Finish => processor.finish(out),
+    }
+}

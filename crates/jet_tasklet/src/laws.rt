@@ -1,0 +1,71 @@
+// What holds of every tasklet by what it keeps.
+ghost use Rattle.std.specs.Prelude.{◌≡◌, ◌↔◌, ◌⊎◌, ℕ, Bool, ◌<◌, ◌≤◌, List, [], ◌∷◌, ◌++◌, true, false, ◌^◌, map, get_or, Ok, IfOk, OnErr};
+ghost use Rattle.jet_items.specs.declared.item.Item.{Item};
+ghost use Rattle.jet_boxes.specs.Calls.{Call, MayCall};
+ghost use Rattle.jet_tasklet.specs.declared.arrival.Arrival.{Arrival};
+ghost use Rattle.jet_tasklet.specs.declared.step.Step.TheVariants as step;
+ghost use Rattle.jet_tasklet.specs.declared.progress.Progress.TheVariants as progress;
+ghost use Rattle.jet_tasklet.specs.Steps.{entry_of, next_of};
+
+use crate::Tasklet;
+use jet_boxes::Processor;
+
+impl<P: Processor> Tasklet<P> {
+    ghost use Rattle.jet_tasklet.specs.Inputs.{inputs_view, received_count, received, dones, queue_count, all_done};
+    ghost use Rattle.jet_items.specs.Bag.{SameBag};
+    ghost use Rattle.jet_coalescer.specs.Low.{low};
+    ghost use Rattle.jet_tasklet.specs.Trace.{histories};
+    ghost use Rattle.jet_tasklet.specs.Merging.{data_of, data_received, last_told};
+    ghost use Rattle.jet_tasklet.specs.Keeps.{Keeps, told, IsLawful, Goes, IsUnread, IsUnsent};
+    ghost use Rattle.jet_router.specs.Router.{view};
+    ghost use Rattle.jet_items.specs.Order.{Each};
+    ghost use Rattle.jet_boxes.specs.declared.port.Port.{Port};
+    ghost use Rattle.jet_tasklet.specs.Taking.{NoneToTake};
+    ghost use Rattle.jet_items.specs.Order.{Sound, Closed as ClosedItems};
+    ghost use Rattle.jet_boxes.specs.Entry.{Entry, items_of};
+    ghost use Rattle.jet_boxes.specs.declared.port.Port.TheVariants.{Stream, Build};
+    ghost use Rattle.jet_tasklet.specs.Outputs.{outputs_view, sent_count, Says};
+    ghost use Rattle.jet_tasklet.specs.Sending.{EachReceived, EachSent, EachFront};
+    ghost use Rattle.jet_tasklet.specs.Turning.{is_free, rank, HasEnded, Worked, TakesNone, BeginsFinish, IsFull, IsBlocked, IsStarved, Moves, IsStill};
+    ghost use Rattle.jet_tasklet.specs.Leaving.{IsStopped};
+
+    /// In a tasklet the laws of its processor hold of all that it was told, less what is pending.
+    pub fn keeps_laws(&self)
+        ensures bag { (came : List Arrival) → (gave : List Item) → Keeps P.stands P.amid P.takes self.now came gave → Keeps P.bag P.bag_amid P.takes self.now came gave }
+        ensures marks { (came : List Arrival) → (gave : List Item) → Keeps P.stands P.amid P.takes self.now came gave → Keeps P.marks P.marks_amid P.takes self.now came gave }
+    {}
+
+    /// Where the list that each queue received is sound, so is the list of items and marks that the processor was told,
+    /// and where those lists are closed, so is it.
+    pub fn is_told_in_order(&self)
+        ensures sound { (behind : ℕ → ℕ → Bool) → (came : List Arrival) → (gave : List Item) → Keeps P.stands P.amid P.takes self.now came gave
+            → EachReceived (Sound behind) (inputs_view self.now.inputs.items)
+            → EachFront (λ taken. Sound behind (items_of taken)) (told self.now.step (queue_count Stream (inputs_view self.now.inputs.items)) came) }
+        ensures closed { (came : List Arrival) → (gave : List Item) → Keeps P.stands P.amid P.takes self.now came gave
+            → EachReceived ClosedItems (inputs_view self.now.inputs.items)
+            → EachFront (λ taken. ClosedItems (items_of taken)) (told self.now.step (queue_count Stream (inputs_view self.now.inputs.items)) came) }
+    {}
+
+    /// Where the processor's premise holds of what it was told, the list that each destination was sent is sound, and
+    /// closed: also after the end, since no processor gives a Done.
+    pub fn sends_in_order(&self)
+        ensures sound { (behind : ℕ → ℕ → Bool) → (came : List Arrival) → (gave : List Item) → Keeps P.stands P.amid P.takes self.now came gave
+            → EachFront (P.sound_if self.now.processor behind) (told self.now.step (queue_count Stream (inputs_view self.now.inputs.items)) came)
+            → EachSent (Sound behind) (outputs_view self.now.outputs.items) }
+        ensures closed { (came : List Arrival) → (gave : List Item) → Keeps P.stands P.amid P.takes self.now came gave
+            → EachFront (P.closed_if self.now.processor) (told self.now.step (queue_count Stream (inputs_view self.now.inputs.items)) came)
+            → EachSent ClosedItems (outputs_view self.now.outputs.items) }
+    {}
+
+    /// The data that the processor was told is that which all queues received, whatever the order in which it came, and
+    /// while a stream queue is not done the last mark told or pending is the least of the greatest marks of those queues.
+    pub fn takes_from_all(&self)
+        ensures bag { (came : List Arrival) → (gave : List Item) → Keeps P.stands P.amid P.takes self.now came gave
+            → SameBag (data_of (items_of (told self.now.step (queue_count Stream (inputs_view self.now.inputs.items)) came)))
+            (data_received Stream (inputs_view self.now.inputs.items) ++ data_received Build (inputs_view self.now.inputs.items)) }
+        ensures mark { (came : List Arrival) → (gave : List Item) → Keeps P.stands P.amid P.takes self.now came gave
+            → (q : ℕ) → q < queue_count Stream (inputs_view self.now.inputs.items) → get_or (dones Stream (inputs_view self.now.inputs.items)) q true ≡ false
+            → last_told (told self.now.step (queue_count Stream (inputs_view self.now.inputs.items)) came)
+            ≡ low (histories (queue_count Stream (inputs_view self.now.inputs.items)) (λ q. get_or (received Stream (inputs_view self.now.inputs.items)) q [])) }
+    {}
+}

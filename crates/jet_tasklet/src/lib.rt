@@ -1,0 +1,26 @@
+//! The tasklet machine: what runs one processor instance between the rings of its inputs and those of its outputs, in
+//! turns that never wait.
+//!
+//! Contracts follow the items that came, each with its port and the number of its queue, and the items that were given
+//! to the outputs (`specs/Keeps.antt`): what each queue received is what came of it, the processor was told what follows
+//! from that (`specs/Trace.antt`), and each destination was sent its part of what the processor gave. The order in which
+//! items came from several queues is in no law. It stands on the crates of rings, conveyors, routers and boxes by their
+//! contracts alone.
+#![tactic(auto)]
+
+mod arrival;
+mod call;
+mod input;
+mod inputs;
+mod laws;
+mod note;
+mod output;
+mod outputs;
+mod progress;
+mod step;
+mod tasklet;
+
+pub use arrival::Arrival;
+pub use input::Input;
+pub use progress::Progress;
+pub use tasklet::Tasklet;

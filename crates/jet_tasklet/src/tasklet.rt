@@ -1,0 +1,313 @@
+// A tasklet over any processor.
+ghost use Rattle.std.specs.Prelude.{◌≡◌, ◌↔◌, ◌⊎◌, ℕ, Bool, ◌<◌, ◌≤◌, List, [], ◌∷◌, ◌++◌, true, false, ◌^◌, map, get_or, Ok, IfOk, OnErr};
+ghost use Rattle.jet_items.specs.declared.item.Item.{Item};
+ghost use Rattle.jet_boxes.specs.Calls.{Call, MayCall};
+ghost use Rattle.jet_tasklet.specs.declared.arrival.Arrival.{Arrival};
+ghost use Rattle.jet_tasklet.specs.declared.step.Step.TheVariants as step;
+ghost use Rattle.jet_tasklet.specs.declared.progress.Progress.TheVariants as progress;
+ghost use Rattle.jet_tasklet.specs.Steps.{entry_of, next_of};
+
+use crate::call::call;
+use crate::inputs::{count_queues, have_ended, poll};
+use crate::note::note;
+use crate::output::Output;
+use crate::outputs::{give_out, over};
+use crate::step::{Pending, Step};
+use crate::{Arrival, Input, Progress};
+use jet_boxes::{Outbox, Port, Processor};
+use jet_coalescer::Coalescer;
+use jet_conveyor::Conveyor;
+use jet_items::{Item, NoMemory};
+use jet_router::Router;
+use std::alloc::Global;
+
+/// Takes items from its inputs, hands them to a processor, and gives on what that puts.
+#[derive(Drop)]
+pub struct Tasklet<P> {
+    processor: P,
+    inputs: Vec<Input>,
+    outputs: Vec<Output>,
+    // The watermark of the stream queues.
+    coalescer: Coalescer,
+    step: Step,
+    outbox: Outbox,
+}
+
+impl<P: Processor> Tasklet<P> {
+    ghost use Rattle.jet_tasklet.specs.Inputs.{inputs_view, received_count, received, dones, queue_count, all_done};
+    ghost use Rattle.jet_items.specs.Bag.{SameBag};
+    ghost use Rattle.jet_coalescer.specs.Low.{low};
+    ghost use Rattle.jet_tasklet.specs.Trace.{histories};
+    ghost use Rattle.jet_tasklet.specs.Merging.{data_of, data_received, last_told};
+    ghost use Rattle.jet_tasklet.specs.Keeps.{Keeps, told, IsLawful, Goes, IsUnread, IsUnsent};
+    ghost use Rattle.jet_router.specs.Router.{view};
+    ghost use Rattle.jet_items.specs.Order.{Each};
+    ghost use Rattle.jet_boxes.specs.declared.port.Port.{Port};
+    ghost use Rattle.jet_tasklet.specs.Taking.{NoneToTake};
+    ghost use Rattle.jet_items.specs.Order.{Sound, Closed as ClosedItems};
+    ghost use Rattle.jet_boxes.specs.Entry.{Entry, items_of};
+    ghost use Rattle.jet_boxes.specs.declared.port.Port.TheVariants.{Stream, Build};
+    ghost use Rattle.jet_tasklet.specs.Outputs.{outputs_view, sent_count, Says};
+    ghost use Rattle.jet_tasklet.specs.Sending.{EachReceived, EachSent, EachFront};
+    ghost use Rattle.jet_tasklet.specs.Turning.{is_free, rank, HasEnded, Worked, TakesNone, BeginsFinish, IsFull, IsBlocked, IsStarved, Moves, IsStill};
+    ghost use Rattle.jet_tasklet.specs.Leaving.{IsStopped};
+
+    /// A tasklet that has taken nothing, with an outbox for `room` items. The processor, the conveyors and the routers are
+    /// new.
+    pub fn new(
+        alloc: Global,
+        processor: P,
+        inputs: Vec<Input>,
+        outputs: Vec<Router>,
+        room: u32,
+    ) -> Result<Tasklet<P>, NoMemory>
+    where
+        P: Drop,
+        requires room { 1 ≤ room }
+        requires few { (port : Port) → queue_count port (inputs_view inputs.items) < 2 ^ 32 }
+        requires new { P.stands processor [] [] }
+        requires takes { (port : Port) → (q : ℕ) → q < queue_count port (inputs_view inputs.items) → P.takes processor port q }
+        requires unread { Each IsUnread (inputs_view inputs.items) }
+        requires unsent { Each IsUnsent (map view outputs.items) }
+        ensures { IfOk result (λ t. Keeps P.stands P.amid P.takes t [] []) }
+    {
+        let queues = count_queues(&inputs, Port::Stream);
+        let coalescer = Coalescer::new(alloc, queues)?;
+        let outputs = over(alloc, outputs)?;
+        let outbox = Outbox::new(alloc, room)?;
+        Ok(Tasklet {
+            processor,
+            inputs,
+            outputs,
+            coalescer,
+            step: Step::Poll,
+            outbox,
+        })
+    }
+
+    // Takes an item, and answers whether there was one.
+    fn take(&mut self) -> bool
+        requires free { self.old.step ≡ step.Poll }
+        requires keeps { IsLawful P.stands P.amid P.takes self.old }
+        ensures keeps { Goes P.stands P.amid P.takes self.old self.new }
+        ensures took { Says result (received_count (inputs_view self.old.inputs.items)) (received_count (inputs_view self.new.inputs.items)) }
+        ensures outputs { self.new.outputs ≡ self.old.outputs }
+        ensures none { result ≡ false → Worked self.old self.new × (self.new.step ≡ step.Poll) × NoneToTake (inputs_view self.new.inputs.items) }
+    {
+        match poll(&mut self.inputs) {
+            None => false,
+            Some(arrival) => {
+                self.step = note(&mut self.coalescer, arrival);
+                true
+            }
+        }
+    }
+
+    // Makes the call that is pending, and answers whether it is ended.
+    fn make(&mut self, pending: &Pending) -> Result<bool, NoMemory>
+        requires pending { self.old.step ≡ step.Make pending.now }
+        requires keeps { IsLawful P.stands P.amid P.takes self.old }
+        ensures keeps { Goes P.stands P.amid P.takes self.old self.new }
+        ensures wants { OnErr result (P.frugal ≡ false) }
+        ensures next { result ≡ Ok true → self.new.step ≡ next_of pending.now }
+        ensures worked { Worked self.old self.new }
+        ensures full { result ≡ Ok false → IsFull self.new.outbox }
+    {
+        let ended = call(&mut self.processor, pending, &mut self.outbox)?;
+        if ended {
+            self.step = pending.next();
+        }
+        Ok(ended)
+    }
+
+    // Puts Done, where there is room.
+    fn put_done(&mut self) -> bool
+        requires finished { self.old.step ≡ step.End }
+        ensures keeps { Goes P.stands P.amid P.takes self.old self.new }
+        ensures ended { result ≡ true → self.new.step ≡ step.Ended }
+        ensures worked { Worked self.old self.new }
+        ensures full { result ≡ false → IsFull self.new.outbox }
+    {
+        if self.outbox.offer(Item::Done).is_err() {
+            return false;
+        }
+        self.step = Step::Ended;
+        true
+    }
+
+    // Does what is pending, and answers whether it is ended.
+    fn advance(&mut self) -> Result<bool, NoMemory>
+        requires pending { is_free self.old.step ≡ false }
+        requires keeps { IsLawful P.stands P.amid P.takes self.old }
+        ensures keeps { Goes P.stands P.amid P.takes self.old self.new }
+        ensures wants { OnErr result (P.frugal ≡ false) }
+        ensures smaller { result ≡ Ok true → rank self.new.step < rank self.old.step }
+        ensures worked { Worked self.old self.new }
+        ensures full { result ≡ Ok false → IsFull self.new.outbox }
+    {
+        let step = self.step;
+        match step {
+            Step::Make(pending) => self.make(&pending),
+            Step::End => Ok(self.put_done()),
+            Step::Poll | Step::Ended => Ok(true),
+        }
+    }
+
+    // Makes the calls that are pending, and answers whether none is left.
+    fn work(&mut self) -> Result<bool, NoMemory>
+        requires keeps { IsLawful P.stands P.amid P.takes self.old }
+        ensures keeps { Goes P.stands P.amid P.takes self.old self.new }
+        ensures wants { OnErr result (P.frugal ≡ false) }
+        ensures free { result ≡ Ok true → is_free self.new.step ≡ true }
+        ensures worked { Worked self.old self.new }
+        ensures full { result ≡ Ok false → IsFull self.new.outbox }
+    {
+        'calls: while !self.step.is_free() {
+            if !self.advance()? {
+                return Ok(false);
+            }
+        }
+        Ok(true)
+    }
+
+    // Takes an item once nothing is pending, and answers whether there was one.
+    fn take_next(&mut self) -> Result<bool, NoMemory>
+        requires keeps { IsLawful P.stands P.amid P.takes self.old }
+        ensures keeps { Goes P.stands P.amid P.takes self.old self.new }
+        ensures wants { OnErr result (P.frugal ≡ false) }
+        ensures took { IfOk result (λ took. Says took (received_count (inputs_view self.old.inputs.items)) (received_count (inputs_view self.new.inputs.items))) }
+        ensures outputs { self.new.outputs ≡ self.old.outputs }
+        ensures none { result ≡ Ok false → Worked self.old self.new × TakesNone self.new }
+    {
+        if !self.work()? {
+            return Ok(false);
+        }
+        if !self.is_polling() {
+            return Ok(false);
+        }
+        Ok(self.take())
+    }
+
+    // Takes at most 64 items, and answers whether there was one.
+    fn take_items(&mut self) -> Result<bool, NoMemory>
+        requires keeps { IsLawful P.stands P.amid P.takes self.old }
+        ensures keeps { Goes P.stands P.amid P.takes self.old self.new }
+        ensures wants { OnErr result (P.frugal ≡ false) }
+        ensures took { IfOk result (λ took. Says took (received_count (inputs_view self.old.inputs.items)) (received_count (inputs_view self.new.inputs.items))) }
+        ensures outputs { self.new.outputs ≡ self.old.outputs }
+        ensures none { result ≡ Ok false → Worked self.old self.new × TakesNone self.new }
+    {
+        if !self.take_next()? {
+            return Ok(false);
+        }
+        'items: for _ in 1..64 {
+            if !self.take_next()? {
+                return Ok(true);
+            }
+        }
+        Ok(true)
+    }
+
+    // Whether the tasklet takes an item next.
+    fn is_polling(&self) -> bool
+        ensures { result ≡ true ↔ (self.now.step ≡ step.Poll) }
+    {
+        matches!(self.step, Step::Poll)
+    }
+
+    // Begins the finish once every queue is done.
+    fn begin_finish(&mut self)
+        ensures keeps { Goes P.stands P.amid P.takes self.old self.new }
+        ensures begins { BeginsFinish self.old self.new }
+    {
+        if !self.is_polling() {
+            return;
+        }
+        if have_ended(&self.inputs) {
+            self.step = Step::Make(Pending::Finish);
+        }
+    }
+
+    // Gives the items of the outbox as far as they go, and answers whether one was pushed into a ring.
+    fn give(&mut self) -> bool
+        requires keeps { IsLawful P.stands P.amid P.takes self.old }
+        ensures keeps { Goes P.stands P.amid P.takes self.old self.new }
+        ensures stops { IsStopped self.new.outbox.items (outputs_view self.new.outputs.items) }
+        ensures step { self.new.step ≡ self.old.step }
+        ensures room { self.new.outbox.room ≡ self.old.outbox.room }
+        ensures inputs { self.new.inputs ≡ self.old.inputs }
+        ensures pushed { Says result (sent_count (outputs_view self.old.outputs.items)) (sent_count (outputs_view self.new.outputs.items)) }
+        ensures left { (left : List Item) × (self.old.outbox.items ≡ left ++ self.new.outbox.items) }
+    {
+        give_out(&mut self.outputs, &mut self.outbox)
+    }
+
+    // Whether Done was given to all outputs.
+    fn has_ended(&self) -> bool
+        ensures { result ≡ true ↔ HasEnded self.now }
+    {
+        let Step::Ended = self.step else {
+            return false;
+        };
+        self.outbox.front().is_none()
+    }
+
+    /// Gives the front of the outbox to every output, as far as slots are free, and then takes at most 64 items and hands each
+    /// to the processor. Build queues come first, and stream queues only once every build queue is done.
+    pub fn turn(&mut self) -> Result<Progress, NoMemory>
+        requires keeps { IsLawful P.stands P.amid P.takes self.old }
+        ensures keeps { Goes P.stands P.amid P.takes self.old self.new }
+        ensures wants { OnErr result (P.frugal ≡ false) }
+        ensures done { result ≡ Ok progress.Done → HasEnded self.old × (self.new ≡ self.old) }
+        ensures after { HasEnded self.old → result ≡ Ok progress.Done }
+        ensures moved { result ≡ Ok progress.Moved → Moves self.old self.new }
+        ensures still { result ≡ Ok progress.Idle → IsStill self.old self.new }
+        ensures idle { result ≡ Ok progress.Idle → IsBlocked self.new ⊎ IsStarved self.new }
+    {
+        if self.has_ended() {
+            return Ok(Progress::Done);
+        }
+        let before = self.outbox.free();
+        let pushed = self.give();
+        let room = self.outbox.free();
+        let took = self.take_items()?;
+        self.begin_finish();
+        self.work()?;
+        let after = self.outbox.free();
+        let moved = pushed | took | (before < room) | (after < room);
+        if moved {
+            Ok(Progress::Moved)
+        } else {
+            Ok(Progress::Idle)
+        }
+    }
+}
+
+impl<P: Processor> Tasklet<P> {
+    ghost use Rattle.std.specs.Prelude.{◌≡◌, ◌<◌, length, Some, slice_get, map};
+    ghost use Rattle.std.specs.Borrow.{sem, Lends};
+    ghost use Rattle.jet_tasklet.specs.Lending.{with_input, with_output};
+    ghost use Rattle.jet_conveyor.specs.contracts.conveyor.Conveyor as conveyor;
+    ghost use Rattle.jet_router.specs.contracts.router.Router as router;
+    ghost use Rattle.jet_tasklet.specs.contracts.tasklet.Tasklet.{the_row};
+
+    /// The conveyor of one input, for meetings with the other ends of its queues.
+    pub fn input(&mut self, n: u32) -> &mut Conveyor
+        requires { n < length self.old.inputs.items }
+        ensures* writes_back { sem 𝓛 (Lends (the_row P.row) conveyor.the_row self.entry result (with_input self.entry.now n result.now)) }
+        ensures value { slice_get (map (λ i. i.conveyor) self.old.inputs.items) n ≡ Some result.now }
+    {
+        let lent = &mut self.inputs[n as usize];
+        &mut lent.conveyor
+    }
+
+    /// The router of one output, for meetings with the other ends of its destinations.
+    pub fn output(&mut self, n: u32) -> &mut Router
+        requires { n < length self.old.outputs.items }
+        ensures* writes_back { sem 𝓛 (Lends (the_row P.row) router.the_row self.entry result (with_output self.entry.now n result.now)) }
+        ensures value { slice_get (map (λ o. o.router) self.old.outputs.items) n ≡ Some result.now }
+    {
+        let lent = &mut self.outputs[n as usize];
+        &mut lent.router
+    }
+}
