@@ -22,7 +22,7 @@ use jet_policy::WinPolicy;
 use std::alloc::Global;
 use std::collections::BTreeMap;
 
-/// Joins the events of each frame and key, until a mark closes the frame: what a job's accumulate vertex does.
+/// Joins the events of each frame and key: what a job's accumulate vertex does.
 ///
 /// An event below the slide's greatest multiple that is at most the last mark is late: it is put as a late item of
 /// this vertex and is not counted. `held` has what is known of each open frame and key.
