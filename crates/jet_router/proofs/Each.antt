@@ -2,11 +2,12 @@
 use Rattle.std.proofs.Common.{◌≡◌, ℕ, zero, suc, ◌+◌, ◌<◌, ◌≤◌, List, [], ◌∷◌, ◌++◌, map, length, get_or, Bool, true, false, refl, ap, ap₂, arith, All}
 use Rattle.std.proofs.lemmas.Bool.{false≢true}
 use Rattle.std.proofs.lemmas.List.Elements.{All-head, All-tail, All-map, All-cons, All-nil}
+use mathlib.Core.List.{IsPrefix}
 use Rattle.jet_items.specs.declared.item.Item.{Item}
 use Rattle.jet_ring.specs.Ring.{TxView}
 use Rattle.jet_router.specs.Dest.{DestView, served, unserved, settled_by, HasInHand, HandIs, starts}
 use Rattle.jet_router.specs.Router.{settled_if}
-use Rattle.jet_router.proofs.Serving.{sent_of_served, settled_of_served, ring_of_served, full_if_owed, hand_of_served, reach_of_served, had_of_served, free_of_served}
+use Rattle.jet_router.proofs.Serving.{sent_of_served, settled_of_served, ring_of_served, full_if_owed, hand_of_served, reach_of_served, had_of_served, free_of_served, more_of_served}
 
 abbrev pub ends : List DestView → List (TxView Item)
 ends ds = map (λ d. d.tx) ds
@@ -46,6 +47,11 @@ module _ (x : Item) where
   fewer_free [] k = omega arith
   fewer_free (a ∷ ds) zero = free_of_served x a
   fewer_free (a ∷ ds) (suc k) = fewer_free ds k
+
+  pub more_sent : (ds : List DestView) (k : ℕ) → IsPrefix (get_or (map (λ t. t.sent) (ends ds)) k []) (get_or (map (λ t. t.sent) (ends (map (served x) ds))) k [])
+  more_sent [] k = ([], refl)
+  more_sent (a ∷ ds) zero = more_of_served x a
+  more_sent (a ∷ ds) (suc k) = more_sent ds k
 
   pub had_kept :
       (ds : List DestView) (k : ℕ) → get_or (map (λ d. d.had) ds) k false ≡ true → get_or (map (λ d. d.had) (map (served x) ds)) k false ≡ true

@@ -1,6 +1,7 @@
 -- What a gift to each destination does.
 use Rattle.std.proofs.Common.{◌≡◌, ◌+◌, ◌≤◌, arith, ℕ, Bool, List, [], ◌∷◌, ◌++◌, map, length, get_or, true, false, refl, sym, ◌∙◌, ap, ap₂, subst, All as AllOf}
 use Rattle.std.proofs.lemmas.Bool.{false≢true}
+use mathlib.Core.List.{IsPrefix}
 use Rattle.jet_items.specs.declared.item.Item.{Item}
 use Rattle.jet_ring.specs.Ring.{TxView}
 use Rattle.jet_router.specs.declared.Given.{Given}
@@ -8,9 +9,9 @@ use Rattle.jet_router.specs.declared.Given.TheVariants.{All, Again}
 use Rattle.jet_router.specs.declared.aim.Aim.TheVariants.{Each}
 use Rattle.jet_router.specs.Aim.{key_of, aim_of}
 use Rattle.jet_router.specs.Dest.{DestView, served, settled_by, HasInHand, starts}
-use Rattle.jet_router.specs.Router.{View, aim, reaches, frees, settled_if, IsInHand, SameRouter}
+use Rattle.jet_router.specs.Router.{View, aim, reaches, sents, frees, settled_if, IsInHand, SameRouter}
 use Rattle.jet_router.specs.Gives.{Gives}
-use Rattle.jet_router.proofs.Each.{ends, ends-starts, in_hand-starts, all_sent, settled_kept, rings_kept, reaches_kept, in_hand_kept, owed_full, each_hand, hand_of_each, some_owed, settled-starts, had_kept, fewer_free}
+use Rattle.jet_router.proofs.Each.{ends, ends-starts, in_hand-starts, all_sent, settled_kept, rings_kept, reaches_kept, in_hand_kept, owed_full, each_hand, hand_of_each, some_owed, settled-starts, had_kept, fewer_free, more_sent}
 
 -- b is a, after x was offered to each destination that has not had it
 pub record ServedEach (a b : View) (x : Item) : Type 0 where
@@ -43,6 +44,13 @@ module _ (a b : View) (x : Item) (s : ServedEach a b x) where
       let served = fewer_free x (starts a.busy a.dests) k in
       let before = ap (λ (w : List (TxView Item)). get_or (map (λ (t : TxView Item). t.free) w) k 0) (ends-starts a.busy a.dests) in
       omega (arith, after, served, before)
+
+  pub more_served : (k : ℕ) → IsPrefix (get_or (sents a) k []) (get_or (sents b) k [])
+  more_served k =
+      let at : List (TxView Item) → List Item = λ w. get_or (map (λ (t : TxView Item). t.sent) w) k [] in
+      let ds : List DestView = starts a.busy a.dests in
+      let first : IsPrefix (at (ends a.dests)) (at (ends (map (served x) ds))) = subst (λ (w : List (TxView Item)). IsPrefix (at w) (at (ends (map (served x) ds)))) (ends-starts a.busy a.dests) (more_sent x ds k) in
+      subst (λ (w : List DestView). IsPrefix (at (ends a.dests)) (at (ends w))) (sym s.dests) first
 
   -- whatever the answer
   pub gives_each :

@@ -2,6 +2,7 @@ pub mod Counting
 mod Dealing
 mod Each
 mod Gifts
+mod Growing
 pub mod Lent
 mod Offers
 mod Same

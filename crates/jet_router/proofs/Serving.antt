@@ -1,5 +1,6 @@
 -- What one offer does to a destination.
-use Rattle.std.proofs.Common.{◌≡◌, ℕ, zero, suc, ◌+◌, ◌-◌, ◌≤◌, List, [], ◌∷◌, ◌++◌, map, take, length, Bool, true, false, refl, sym, ◌∙◌, ap, arith, subst, All, length-append}
+use Rattle.std.proofs.Common.{◌≡◌, ℕ, zero, suc, ◌+◌, ◌-◌, ◌≤◌, List, [], ◌∷◌, ◌++◌, map, take, length, Bool, true, false, refl, sym, ◌∙◌, ap, arith, subst, All, length-append, append-nil}
+use mathlib.Core.List.{IsPrefix}
 use Rattle.std.proofs.lemmas.List.{take-append-le, take_all}
 use Rattle.std.proofs.lemmas.Bool.{false≢true}
 use Rattle.std.proofs.lemmas.List.Elements.{All-head, All-tail, All-cons, All-nil}
@@ -65,6 +66,18 @@ module _ (x : Item) where
 
   pub free_of_served : (d : DestView) → (served x d).tx.free ≤ d.tx.free
   free_of_served d = free_unless d.tx d.had
+
+  more_if : (t : TxView Item) (n : ℕ) → IsPrefix t.sent (offered_if x t n).sent
+  more_if t zero = ([], append-nil t.sent)
+  more_if t (suc n) = (x ∷ [], refl)
+
+  more_unless : (t : TxView Item) (had : Bool) → IsPrefix t.sent (served_unless x t had).tx.sent
+  more_unless t true = ([], append-nil t.sent)
+  more_unless t false = more_if t t.free
+
+  -- nothing that was sent is taken back
+  pub more_of_served : (d : DestView) → IsPrefix d.tx.sent (served x d).tx.sent
+  more_of_served d = more_unless d.tx d.had
 
   -- a destination that has had x has it still
   had_unless : (t : TxView Item) (had : Bool) → had ≡ true → (served_unless x t had).had ≡ true

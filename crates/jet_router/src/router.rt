@@ -35,7 +35,9 @@ impl Router {
     ghost use Rattle.std.specs.Borrow.{sem};
     ghost use mathlib.Core.List.{IsPrefix};
     ghost use Rattle.jet_ring.specs.Ring as ring;
-    ghost use Rattle.jet_router.specs.Lending.{LendsTx};
+    ghost use Rattle.jet_router.specs.Lending.{LendsTx, with_tx};
+    ghost use Rattle.jet_ring.specs.declared.ends.Tx.{Tx};
+    ghost use Rattle.jet_items.specs.declared.item.Item.{Item};
     ghost use Rattle.jet_router.specs.Dest.{served, unserved, starts};
     ghost use Rattle.jet_router.specs.Router.{view, owed_count, free_count, txs, rings, sents, frees, reaches, aim as aim_at, IsInHand, SentTo, TriedFirst, NoneFree, IsNew, SameRouter, Refreshed};
     ghost use Rattle.jet_router.specs.Gives.{Gives};
@@ -122,6 +124,7 @@ impl Router {
         requires { dest < length (view self.old).dests }
         ensures* writes_back { sem 𝓛 (LendsTx self.entry dest result) }
         ensures value { slice_get (txs (view self.old)) dest ≡ Some (ring.tx_view result.now) }
+        ensures meets { (w : Tx Item) → ring.tx_ring w ≡ ring.tx_ring result.now → ring.sent w ≡ ring.sent result.now → Refreshed (view self.old) (view (with_tx self.old dest result.now w)) dest }
     {
         let lent = &mut self.dests[dest as usize];
         &mut lent.tx
@@ -138,6 +141,7 @@ impl Router {
         ensures same { SameRouter (view self.old) (view self.new) }
         ensures reach { reaches (view self.new) ≡ reaches (view self.old) }
         ensures fewer { (k : ℕ) → get_or (frees (view self.new)) k 0 ≤ get_or (frees (view self.old)) k 0 }
+        ensures more { (k : ℕ) → IsPrefix (get_or (sents (view self.old)) k []) (get_or (sents (view self.new)) k []) }
 
         // beside all gifts before it
         ensures dealt { (deals : List Deal) → Dealt (view self.old) deals → DealtAfter result (view self.new) deals item.now }

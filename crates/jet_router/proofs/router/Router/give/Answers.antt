@@ -5,8 +5,9 @@ use Rattle.jet_router.specs.declared.aim.Aim.TheVariants.{Each, Any, Only}
 use Rattle.jet_router.specs.Aim.{key_of, aim_of}
 use Rattle.jet_router.specs.Router.{View, view, aim}
 use Rattle.jet_router.specs.Gives.{Gives}
-use Rattle.jet_router.proofs.Gifts.{ServedEach, same_served, reach_served, fewer_served, gives_each, in_hand_given}
+use Rattle.jet_router.proofs.Gifts.{ServedEach, same_served, reach_served, fewer_served, more_served, gives_each, in_hand_given}
 use Rattle.jet_router.proofs.Dealing.{gift_dealt, gift_stuck}
+use Rattle.jet_router.proofs.Growing.{more_any, more_only}
 use Rattle.jet_router.proofs.router.Router.give.Goals as goal
 use Rattle.jet_router.proofs.router.Router.give.Goals.{After-give_each}
 
@@ -48,6 +49,9 @@ returns-in-Each-clause-reach c = reach_served (view c.args.self.now) (view c.giv
 pub returns-in-Each-clause-fewer : goal.returns-in-Each-clause-fewer
 returns-in-Each-clause-fewer c = fewer_served (view c.args.self.now) (view c.give_each.new.self) c.args.item.now (served_each c)
 
+pub returns-in-Each-clause-more : goal.returns-in-Each-clause-more
+returns-in-Each-clause-more c = more_served (view c.args.self.now) (view c.give_each.new.self) c.args.item.now (served_each c)
+
 pub returns-in-Each-clause-dealt : goal.returns-in-Each-clause-dealt
 returns-in-Each-clause-dealt c =
     let a : View = view c.args.self.now in
@@ -60,6 +64,9 @@ returns-in-Each-clause-stuck c =
     let b : View = view c.give_each.new.self in
     gift_stuck Each c.give_each.result a b c.args.item.now (gave_each c).0 (gave_each c).1 (same_served a b c.args.item.now (served_each c)) (fewer_served a b c.args.item.now (served_each c))
 
+pub returns-in-Any-clause-more : goal.returns-in-Any-clause-more
+returns-in-Any-clause-more c = more_any c.give_any.result (view c.args.self.now) (view c.give_any.new.self) c.args.item.now c.give_any.ensures.gives
+
 pub returns-in-Any-clause-dealt : goal.returns-in-Any-clause-dealt
 returns-in-Any-clause-dealt c =
     let aimed : aim (view c.args.self.now) c.args.item.now ≡ Any = ap (λ t. aim_of c.args.self.now.route t (key_of c.args.item.now)) (sym c.deref.ensures.value) ∙ sym c.in-Any.ensures in
@@ -69,6 +76,9 @@ pub returns-in-Any-clause-stuck : goal.returns-in-Any-clause-stuck
 returns-in-Any-clause-stuck c =
     let aimed : aim (view c.args.self.now) c.args.item.now ≡ Any = ap (λ t. aim_of c.args.self.now.route t (key_of c.args.item.now)) (sym c.deref.ensures.value) ∙ sym c.in-Any.ensures in
     gift_stuck Any c.give_any.result (view c.args.self.now) (view c.give_any.new.self) c.args.item.now aimed c.give_any.ensures.gives c.give_any.ensures.same tt
+
+pub returns-in-Only-clause-more : goal.returns-in-Only-clause-more
+returns-in-Only-clause-more c = more_only c.in-Only.dest c.give_only.result (view c.args.self.now) (view c.give_only.new.self) c.args.item.now c.give_only.ensures.gives
 
 pub returns-in-Only-clause-dealt : goal.returns-in-Only-clause-dealt
 returns-in-Only-clause-dealt c =

@@ -1,10 +1,13 @@
-use Rattle.std.proofs.Common.{◌≡◌, ◌<◌, List, ◌∙◌, ap, refl, length, map, arith, get_or, false}
+use Rattle.std.proofs.Common.{◌≡◌, ◌<◌, List, ◌∙◌, ap, refl, length, map, arith, get_or, false, Some, slice_get}
 use Rattle.std.specs.Vec.{with_item}
 use Rattle.std.specs.Option.{option_map}
 use Rattle.std.proofs.lemmas.List.{length-map, get_or_default}
 use Rattle.std.proofs.lemmas.Option.{slice_get_read, slice_get-map}
 use Rattle.jet_router.specs.declared.dest.Dest.{Dest}
 use Rattle.jet_router.specs.Dest.{DestView, dest_view}
+use Rattle.jet_ring.specs.Ring.{tx_view}
+use Rattle.jet_router.specs.Router.{view, txs}
+use Rattle.jet_router.proofs.Lent.{refreshed-with_tx}
 use Rattle.jet_router.proofs.Same.{same_router}
 use Rattle.jet_router.proofs.router.Router.tx.Goals as goal
 
@@ -16,7 +19,11 @@ returns c =
     let long = length-map xs dest_view in
     let lt : c.args.dest < length xs = omega (arith, long, c.requires) in
     let other : Dest = record { tx = was.tx; had = false } in
-    let same : was ≡ get_or xs c.args.dest other = at ∙ get_or_default xs c.args.dest was other lt in (
+    let same : was ≡ get_or xs c.args.dest other = at ∙ get_or_default xs c.args.dest was other lt in
+    let value : slice_get (txs (view c.args.self.now)) c.args.dest ≡ Some (tx_view was.tx) =
+    slice_get-map (λ (d : DestView). d.tx) (map dest_view xs) c.args.dest
+    ∙ ap (option_map (λ (d : DestView). d.tx)) (slice_get-map dest_view xs c.args.dest)
+    ∙ ap (λ o. option_map (λ (d : DestView). d.tx) (option_map dest_view o)) (slice_get_read xs (length xs) c.args.dest was refl lt at) in (
       (
         refl,
         λ w.
@@ -26,9 +33,7 @@ returns c =
       ),
       record {
         writes_back = tt;
-        value =
-            slice_get-map (λ (d : DestView). d.tx) (map dest_view xs) c.args.dest
-            ∙ ap (option_map (λ (d : DestView). d.tx)) (slice_get-map dest_view xs c.args.dest)
-            ∙ ap (λ o. option_map (λ (d : DestView). d.tx) (option_map dest_view o)) (slice_get_read xs (length xs) c.args.dest was refl lt at);
+        value = value;
+        meets = λ w ring sent. refreshed-with_tx c.args.self.now c.args.dest was.tx w value ring sent;
       },
     )
