@@ -1,0 +1,10 @@
+pub mod Bags
+pub mod Divisors
+pub mod Each
+pub mod Examples
+pub mod Flows
+pub mod Numbers
+pub mod ReadKeys
+pub mod ShortKeys
+pub mod Valid
+pub mod Walks
