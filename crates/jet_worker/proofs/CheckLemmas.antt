@@ -1,0 +1,97 @@
+-- The check of one file: from the reading to the text that is written.
+use Rattle.std.proofs.Common.{◌≡◌, ℕ, List, [], ◌++◌, map, length, Option, Result, Ok, Err, refl, sym, ap, ◌∙◌, inl, inr, append-nil, append_assoc}
+use Rattle.std.specs.Prelude.{IfErr}
+use Rattle.jet_lines.specs.Lines.{lines_of}
+use Rattle.jet_file.specs.Outside.{Told, Entry, Goes, Wrote, rest_of}
+use Rattle.jet_file.specs.Writing.{HasWritten}
+use Rattle.jet_file.specs.declared.outside.Out.TheVariants as out
+use Rattle.jet_flow.specs.DataFiles.{DataFile}
+use Rattle.jet_worker.specs.CheckText.{Checks, check_line, first_bad}
+use Rattle.jet_worker.specs.Feeding.{StopsWriting, WritesText}
+use Rattle.jet_worker.specs.FileChecks.{ChecksFile, HasChecked, HasTallied, IsBadIn, StopsChecking, StopsReading}
+use Rattle.jet_worker.specs.Stopping.{IsNoBadLine}
+use Rattle.jet_worker.specs.Tallying.{Tallied}
+use Rattle.jet_worker.specs.declared.stop.Stop.{Stop}
+use Rattle.jet_worker.specs.declared.stop.Stop.TheVariants.{BadLine, Outside, NoMemory}
+use Rattle.jet_worker.specs.declared.tally.Tally.{Tally}
+use Rattle.jet_worker.proofs.FeedLemmas.{stop_later}
+use Rattle.jet_worker.proofs.GoesLemmas.{goes_then, goes_weaker}
+use Rattle.jet_worker.proofs.TallyLemmas.{none_is}
+
+-- the reading stopped, and nothing was written
+pub goes_unread : (c : Checks) (p : ℕ × DataFile) (at : ℕ) (stop : Stop) (start now : Option Told) → Goes (StopsReading c p at stop) start now → Goes (StopsChecking c p at stop) start now
+goes_unread c p at stop start now = goes_weaker (StopsReading c p at stop) (StopsChecking c p at stop) (λ a b h. record {
+  front = [];
+  told = h.told;
+  bad = h.bad;
+  whole = inl refl;
+  content = h.content;
+  rows = ap (λ w. w out.Rows) h.written ∙ sym (append-nil (a.written out.Rows));
+  notes = ap (λ w. w out.Notes) h.written;
+}) start now
+
+-- no memory was found for the text
+pub goes_untold : (c : Checks) (p : ℕ × DataFile) (at count : ℕ) (tally : Tally) (start now : Option Told) → Goes (HasTallied c p at count tally) start now → Goes (StopsChecking c p at NoMemory) start now
+goes_untold c p at count tally start now = goes_weaker (HasTallied c p at count tally) (StopsChecking c p at NoMemory) (λ a b h. record {
+  front = [];
+  told = λ name_of named. tt;
+  bad = tt;
+  whole = inl refl;
+  content = h.run.content;
+  rows = ap (λ w. w out.Rows) h.run.written ∙ sym (append-nil (a.written out.Rows));
+  notes = ap (λ w. w out.Notes) h.run.written;
+}) start now
+
+notes_not_rows : out.Notes ≡ out.Rows → ⊥
+notes_not_rows h = cc
+
+none_bad : (c : Checks) (p : ℕ × DataFile) (stop : Stop) → IsNoBadLine stop → (bytes : List ℕ) → IsBadIn c p bytes stop
+none_bad c p (BadLine part line why) k bytes = absurd k
+none_bad c p (Outside call spot) k bytes = tt
+none_bad c p NoMemory k bytes = tt
+
+-- the text was written
+checked : (c : Checks) (p : ℕ × DataFile) (at count : ℕ) (tally : Tally) (text : List ℕ) (a b d : Told) → ((bytes : List ℕ) → Tallied c p (lines_of bytes) tally → count ≡ length (lines_of bytes) → text ≡ check_line c p bytes)
+    → HasTallied c p at count tally a b → HasWritten out.Rows text [] b d → HasChecked c p at a d
+checked c p at count tally text a b d is h w = record {
+  bytes = h.bytes;
+  left = h.left;
+  good = none_is c p h.bytes tally h.tallied;
+  name = ap (λ place. (place at).name) w.place ∙ h.run.name;
+  taken = ap (λ place. (place at).taken) w.place ∙ h.run.taken;
+  others = λ other differs. ap (λ place. place other) w.place ∙ h.run.others other differs;
+  content = w.content ∙ h.run.content;
+  rows = w.written ∙ ap (λ (l : List ℕ). l ++ text) (ap (λ f. f out.Rows) h.run.written) ∙ ap (λ (l : List ℕ). a.written out.Rows ++ l) (is h.bytes h.tallied h.count_is);
+  notes = w.others out.Notes notes_not_rows ∙ ap (λ f. f out.Notes) h.run.written;
+  calls = h.run.calls ++ map (Wrote out.Rows) w.lengths;
+  trace = w.trace ∙ append-nil (b.trace ++ map (Wrote out.Rows) w.lengths) ∙ ap (λ (l : List Entry). l ++ map (Wrote out.Rows) w.lengths) h.run.trace
+      ∙ append_assoc a.trace h.run.calls (map (Wrote out.Rows) w.lengths);
+}
+
+-- the text was not all written
+unwritten : (c : Checks) (p : ℕ × DataFile) (at count : ℕ) (tally : Tally) (text : List ℕ) (stop : Stop) (a b d : Told) → ((bytes : List ℕ) → Tallied c p (lines_of bytes) tally → count ≡ length (lines_of bytes) → text ≡ check_line c p bytes)
+    → IsNoBadLine stop → HasTallied c p at count tally a b → StopsWriting out.Rows text stop b d → StopsChecking c p at stop a d
+unwritten c p at count tally text stop a b d is never h w = record {
+  front = w.front;
+  told = λ name_of named. stop_later name_of stop h.run.calls a b d h.run.trace (w.told name_of);
+  bad = none_bad c p stop never (rest_of a at);
+  whole = inr (
+    never,
+    record {
+      good = ap (first_bad c p) h.left ∙ none_is c p h.bytes tally h.tallied;
+      rest = w.rest;
+      parts = ap (check_line c p) h.left ∙ sym (is h.bytes h.tallied h.count_is) ∙ w.parts;
+    },
+  );
+  content = w.content ∙ h.run.content;
+  rows = w.written ∙ ap (λ (l : List ℕ). l ++ w.front) (ap (λ f. f out.Rows) h.run.written);
+  notes = w.others out.Notes notes_not_rows ∙ ap (λ f. f out.Notes) h.run.written;
+}
+
+pub goes_text : (c : Checks) (p : ℕ × DataFile) (at count : ℕ) (tally : Tally) (text : List ℕ) (r : Result (Unit {0}) Stop) (start now next : Option Told)
+    → ((bytes : List ℕ) → Tallied c p (lines_of bytes) tally → count ≡ length (lines_of bytes) → text ≡ check_line c p bytes) → IfErr r IsNoBadLine
+    → Goes (HasTallied c p at count tally) start now → Goes (WritesText out.Rows text r) now next → Goes (ChecksFile c p at r) start next
+goes_text c p at count tally text (Ok done) start now next is never h w =
+    goes_then (HasTallied c p at count tally) (HasWritten out.Rows text []) (HasChecked c p at) (λ a b d h w. checked c p at count tally text a b d is h w) start now next h w
+goes_text c p at count tally text (Err stop) start now next is never h w =
+    goes_then (HasTallied c p at count tally) (StopsWriting out.Rows text stop) (StopsChecking c p at stop) (λ a b d h w. unwritten c p at count tally text stop a b d is never h w) start now next h w

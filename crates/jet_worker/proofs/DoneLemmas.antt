@@ -1,0 +1,156 @@
+-- The check of all opened files, one after another.
+use Rattle.std.proofs.Common.{◌≡◌, ◌≢◌, ℕ, ◌+◌, Bool, true, false, List, [], ◌∷◌, ◌++◌, map, length, get_or, Option, Some, None, All, refl, sym, ap, ◌∙◌, subst, arith, append-nil, append_assoc}
+use Rattle.std.specs.Prelude.{IsSome, IsSomeAnd}
+use Rattle.std.specs.Option.{unwrap_or}
+use Rattle.std.proofs.lemmas.Grind.{flat_map-append}
+use Rattle.std.proofs.lemmas.List.{map-append}
+use Rattle.std.proofs.lemmas.List.Elements.{All-append, All-nil, All-cons, All-head, All-map, All-tail, All-weaker}
+use Rattle.jet_file.specs.Headline.{IsReadWhole}
+use Rattle.jet_file.specs.Outside.{Entry, Place, Told, rest_from, rest_of}
+use Rattle.jet_file.specs.declared.outside.Out.TheVariants as out
+use Rattle.jet_flow.specs.DataFiles.{DataFile, file_name}
+use Rattle.jet_worker.specs.CheckText.{Checks, check_line, first_bad}
+use Rattle.jet_worker.specs.Checked.{AreThere, IsChecked, IsGood, IsRead, check_lines, content_of, numbered}
+use Rattle.jet_worker.specs.FileChecks.{HasChecked}
+use Rattle.jet_worker.specs.Opening.{AreApart, AreNew, HasOpened, IsUnread, Opened, pair_of}
+use Rattle.jet_worker.proofs.OpenLemmas.{all_left, all_right}
+
+-- ---- contents
+
+rest_zero : (o : Option (List ℕ)) → rest_from o 0 ≡ unwrap_or o []
+rest_zero None = refl
+rest_zero (Some bytes) = refl
+
+-- all of a file is left where nothing is taken of it
+pub rest_is : (a b : Told) (o : Opened) → IsUnread b o → b.content ≡ a.content → rest_of b o.at ≡ content_of a o.file
+rest_is a b o unread same =
+    ap (λ (p : Place). rest_from (b.content p.name) p.taken) unread ∙ ap (λ (content : List ℕ → Option (List ℕ)). rest_from (content (file_name o.file)) 0) same ∙ rest_zero (a.content (file_name o.file))
+
+pub good_if : (o : Option (List ℕ)) (P : List ℕ → Type 0) → IsSome o → P (unwrap_or o []) → IsSomeAnd o P
+good_if None P there h = absurd (cc there)
+good_if (Some bytes) P there h = h
+
+good_too : (o : Option (List ℕ)) (P Q : List ℕ → Type 0) → IsSomeAnd o P → Q (unwrap_or o []) → IsSomeAnd o Q
+good_too None P Q there h = absurd there
+good_too (Some bytes) P Q there h = h
+
+place_is : (p : Place) (name : List ℕ) (taken : ℕ) → p.name ≡ name → p.taken ≡ taken → p ≡ record { name = name; taken = taken }
+place_is p name taken one two = ap (λ (n : List ℕ). let q : Place = record { name = n; taken = p.taken } in q) one ∙ ap (λ (t : ℕ). let q : Place = record { name = name; taken = t } in q) two
+
+-- ---- what the loop keeps
+
+-- the file was read whole
+abbrev pub IsTaken : Told → Told → Opened → Type 0
+IsTaken old now o = now.place o.at ≡ record { name = file_name o.file; taken = length (content_of old o.file) }
+
+-- the first files were read and are good, and their lines were written; the later ones are open
+pub record HasDone (c : Checks) (done later : List Opened) (old now : Told) : Type 0 where
+  pub all : AreThere c old
+  pub good : All (λ o. IsGood c old (pair_of o)) done
+  pub whole : All (IsTaken old now) done
+  pub there : All (λ o. IsSome (old.content (file_name o.file))) later
+  pub unread : All (IsUnread now) later
+  pub others : (n : ℕ) → All (λ o. o.at ≢ n) done → All (λ o. o.at ≢ n) later → now.place n ≡ old.place n
+  pub content : now.content ≡ old.content
+  pub rows : now.written out.Rows ≡ old.written out.Rows ++ check_lines c old (map pair_of done)
+  pub notes : now.written out.Notes ≡ old.written out.Notes
+  pub calls : List Entry
+  pub trace : now.trace ≡ old.trace ++ calls
+
+pub none_done : (c : Checks) (all : List Opened) (a b : Told) → AreThere c a → HasOpened all a b → HasDone c [] all a b
+none_done c all a b every h = record {
+  all = every;
+  good = All-nil (λ (o : Opened). IsGood c a (pair_of o));
+  whole = All-nil (IsTaken a b);
+  there = h.there;
+  unread = h.unread;
+  others = λ n none apart. h.others n apart;
+  content = h.content;
+  rows = ap (λ w. w out.Rows) h.written ∙ sym (append-nil (a.written out.Rows));
+  notes = ap (λ w. w out.Notes) h.written;
+  calls = h.calls;
+  trace = h.trace;
+}
+
+-- ---- one file more
+
+-- the file has another number than those before it and those after it
+pub record IsApart (done later : List Opened) (o : Opened) : Type 0 where
+  pub before : All (λ x. x.at ≢ o.at) done
+  pub after : All (λ x. x.at ≢ o.at) later
+
+pub apart_in : (done later : List Opened) (o : Opened) → AreApart (done ++ o ∷ later) → IsApart done later o
+apart_in [] later o h = record { before = All-nil (λ (x : Opened). x.at ≢ o.at); after = h.0 }
+apart_in (y ∷ done) later o h =
+    let more = apart_in done later o h.1 in
+    let other : o.at ≢ y.at = All-head (λ (x : Opened). x.at ≢ y.at) o later (all_right (λ (x : Opened). x.at ≢ y.at) done (o ∷ later) h.0) in
+    record { before = All-cons (λ (x : Opened). x.at ≢ o.at) y done (λ same. other (sym same)) more.before; after = more.after }
+
+-- the text of files with one more
+pub lines_more : (c : Checks) (a : Told) (done : List Opened) (o : Opened) → check_lines c a (map pair_of (done ++ o ∷ [])) ≡ check_lines c a (map pair_of done) ++ check_line c (pair_of o) (content_of a o.file)
+lines_more c a done o =
+    ap (check_lines c a) (map-append pair_of done (o ∷ [])) ∙ flat_map-append (λ p. check_line c p (content_of a p.1)) (map pair_of done) (pair_of o ∷ [])
+    ∙ ap (λ (l : List ℕ). check_lines c a (map pair_of done) ++ l) (append-nil (check_line c (pair_of o) (content_of a o.file)))
+
+kept_places : (P : Told → Opened → Type 0) (at : ℕ) (xs : List Opened) (b d : Told) → ((x : Opened) → d.place x.at ≡ b.place x.at → P b x → P d x) → ((other : ℕ) → other ≢ at → d.place other ≡ b.place other)
+    → All (λ x. x.at ≢ at) xs → All (P b) xs → All (P d) xs
+kept_places P at xs b d moves others apart h = λ k e short. moves (get_or xs k e) (others (get_or xs k e).at (apart k e short)) (h k e short)
+
+pub one_done : (c : Checks) (done later : List Opened) (o : Opened) (a b d : Told) → IsApart done later o → HasDone c done (o ∷ later) a b → HasChecked c (pair_of o) o.at b d → HasDone c (done ++ o ∷ []) later a d
+one_done c done later o a b d apart h k =
+    let unread : IsUnread b o = All-head (IsUnread b) o later h.unread in
+    let there : IsSome (a.content (file_name o.file)) = All-head (λ (x : Opened). IsSome (a.content (file_name x.file))) o later h.there in
+    let bytes : k.bytes ≡ content_of a o.file = sym k.left ∙ rest_is a b o unread h.content in
+    let good : IsGood c a (pair_of o) = good_if (a.content (file_name o.file)) (λ (content : List ℕ). first_bad c (pair_of o) content ≡ None) there (subst (λ (l : List ℕ). first_bad c (pair_of o) l ≡ None) bytes k.good) in
+    let taken : (d.place o.at).taken ≡ length (content_of a o.file) =
+    k.taken ∙ ap (λ (p : Place). p.taken + length k.bytes) unread ∙ zero_and (length k.bytes) ∙ ap length bytes in
+    let whole : IsTaken a d o = place_is (d.place o.at) (file_name o.file) (length (content_of a o.file)) (k.name ∙ ap (λ (p : Place). p.name) unread) taken in
+    record {
+      all = h.all;
+      good = All-append (λ (x : Opened). IsGood c a (pair_of x)) done (o ∷ []) h.good (All-cons (λ (x : Opened). IsGood c a (pair_of x)) o [] good (All-nil (λ (x : Opened). IsGood c a (pair_of x))));
+      whole = All-append (IsTaken a d) done (o ∷ []) (kept_places (IsTaken a) o.at done b d (λ x same is. same ∙ is) k.others apart.before h.whole) (All-cons (IsTaken a d) o [] whole (All-nil (IsTaken a d)));
+      there = All-tail (λ (x : Opened). IsSome (a.content (file_name x.file))) o later h.there;
+      unread = kept_places IsUnread o.at later b d (λ x same is. same ∙ is) k.others apart.after (All-tail (IsUnread b) o later h.unread);
+      others = λ n before after.
+          let this : o.at ≢ n = All-head (λ (x : Opened). x.at ≢ n) o [] (all_right (λ (x : Opened). x.at ≢ n) done (o ∷ []) before) in
+          k.others n (λ same. this (sym same)) ∙ h.others n (all_left (λ (x : Opened). x.at ≢ n) done (o ∷ []) before) (All-cons (λ (x : Opened). x.at ≢ n) o later this after);
+      content = k.content ∙ h.content;
+      rows = k.rows ∙ ap (λ (l : List ℕ). l ++ check_line c (pair_of o) k.bytes) h.rows
+          ∙ append_assoc (a.written out.Rows) (check_lines c a (map pair_of done)) (check_line c (pair_of o) k.bytes)
+          ∙ ap (λ (l : List ℕ). a.written out.Rows ++ (check_lines c a (map pair_of done) ++ check_line c (pair_of o) l)) bytes
+          ∙ ap (λ (l : List ℕ). a.written out.Rows ++ l) (sym (lines_more c a done o));
+      notes = k.notes ∙ h.notes;
+      calls = h.calls ++ k.calls;
+      trace = k.trace ∙ ap (λ (t : List Entry). t ++ k.calls) h.trace ∙ append_assoc a.trace h.calls k.calls;
+    }
+  where
+    zero_and : (n : ℕ) → 0 + n ≡ n
+    zero_and n = omega arith
+
+-- ---- all files
+
+pub all_done : (c : Checks) (before now : ℕ → Bool) (all later : List Opened) (a b : Told) → map pair_of all ≡ numbered c → later ≡ [] → AreNew before now all → HasDone c all later a b → IsChecked c before now a b
+all_done c before now all later a b pairs none numbers h = record {
+  good = subst (All (IsGood c a)) pairs (All-map (IsGood c a) pair_of all h.good);
+  read = subst (All (IsRead before now a b)) pairs (All-map (IsRead before now a b) pair_of all read);
+  rows = h.rows ∙ ap (λ (ps : List (ℕ × DataFile)). a.written out.Rows ++ check_lines c a ps) pairs;
+  notes = h.notes;
+  kept = h.content;
+  opened = λ file was. still file was (now file) refl;
+  places = λ file was. h.others file (All-weaker (λ (x : Opened). before x.at ≡ false) (λ (x : Opened). x.at ≢ file) (λ x fresh same. no (sym was ∙ ap before (sym same) ∙ fresh)) all numbers.fresh)
+      (subst (All (λ (x : Opened). x.at ≢ file)) (sym none) (All-nil (λ (x : Opened). x.at ≢ file)));
+}
+  where
+    no : true ≡ false → ⊥
+    no h = cc
+
+    still : (file : ℕ) → before file ≡ true → (b : Bool) → now file ≡ b → now file ≡ true
+    still file was true is = is
+    still file was false is = absurd (no (sym was ∙ numbers.kept file is))
+
+    one : (o : Opened) → IsGood c a (pair_of o) → IsTaken a b o → before o.at ≡ false → now o.at ≡ true → IsRead before now a b (pair_of o)
+    one o good whole fresh added = good_too (a.content (file_name o.file)) (λ (content : List ℕ). first_bad c (pair_of o) content ≡ None)
+        (λ (content : List ℕ). IsReadWhole (file_name o.file) content before now b) good (record { file = o.at; fresh = fresh; opened = added; place = whole })
+
+    read : All (λ o. IsRead before now a b (pair_of o)) all
+    read = λ k d short. one (get_or all k d) (h.good k d short) (h.whole k d short) (numbers.fresh k d short) (numbers.added k d short)

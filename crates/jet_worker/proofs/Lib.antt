@@ -1,0 +1,17 @@
+pub mod AllLemmas
+pub mod CheckLemmas
+pub mod CountLemmas
+pub mod DoneLemmas
+pub mod FeedLemmas
+pub mod FileLemmas
+pub mod FilesLemmas
+pub mod GoesLemmas
+pub mod LoopLemmas
+pub mod OpenLemmas
+pub mod PlanLemmas
+pub mod ReadLemmas
+pub mod SideLemmas
+pub mod SourceLemmas
+pub mod StopLemmas
+pub mod TallyLemmas
+pub mod ValidLemmas

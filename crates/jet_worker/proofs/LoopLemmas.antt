@@ -1,0 +1,265 @@
+-- The reading of one file to its end, step by step.
+use Rattle.std.proofs.Common.{◌≡◌, ℕ, ◌+◌, ◌-◌, ◌*◌, ◌<◌, ◌≤◌, Bool, true, false, cond, List, [], ◌∷◌, ◌++◌, length, Option, Some, refl, sym, ap, ◌∙◌, subst, arith, inl, inr, append-nil, append_assoc, length-append, length-take-le, take, get_or, nat_eq}
+use Rattle.std.specs.Str.Lines.{strip_carriage_return}
+use Rattle.jet_lines.specs.Cutting.{MayCome, NextIs}
+use Rattle.jet_lines.specs.Lines.{lines_of}
+use Rattle.jet_lines.specs.LinesValue.{LinesValue}
+use Rattle.jet_lines.specs.declared.cut.Cut.TheVariants as cut
+use Rattle.jet_lines.specs.declared.fault.LineFault.{LineFault}
+use Rattle.jet_lines.specs.declared.fault.LineFault.TheVariants as fault
+use Rattle.jet_file.specs.Outside.{Told, Entry, Read, Goes, rest_of}
+use Rattle.jet_flow.specs.DataFiles.{DataFile}
+use Rattle.jet_worker.specs.CheckText.{Checks}
+use Rattle.jet_worker.specs.Feeding.{PutsPiece, StopsAt, TakesPiece}
+use Rattle.jet_worker.specs.FileChecks.{HasTaken, HasTallied, IsBadIn, Progress, StopsReading}
+use Rattle.jet_worker.specs.Stopping.{IsNoBadLine, StopTold}
+use Rattle.jet_worker.specs.Tallying.{IsSmall, StopsAtLine, TakesLine, Tallied, next_fault}
+use Rattle.jet_worker.specs.declared.stop.Spot.{Spot}
+use Rattle.jet_worker.specs.declared.stop.Spot.TheVariants.{Part}
+use Rattle.jet_worker.specs.declared.stop.Stop.{Stop}
+use Rattle.jet_worker.specs.declared.stop.Stop.TheVariants.{BadLine, Outside, NoMemory}
+use Rattle.jet_worker.specs.declared.tally.Tally.{Tally}
+use Rattle.jet_worker.proofs.FeedLemmas.{stop_later}
+use Rattle.jet_worker.proofs.GoesLemmas.{goes_same, goes_then, goes_weaker}
+use Rattle.jet_worker.proofs.TallyLemmas.{bad_is, long_fault, many_fault}
+
+-- what the loop over the lines of a file keeps
+pub record SoFar {S : Type 0} (told : S → Option Told) (opened : S → ℕ → Bool) (steady : S → Bool) (faults : S → ℕ) (most part at : ℕ) (first tally : Tally) (count : ℕ) (start now : S) (lines : LinesValue) : Type 0 where
+  pub progress : (c : Checks) (f : DataFile) → c.most ≡ most → Tallied c (part, f) [] first → Progress c (part, f) at (told start) (told now) lines tally
+  pub small : IsSmall lines.number tally
+  pub count_is : count ≡ lines.number
+  pub opened_same : opened now ≡ opened start
+  pub steady_same : steady now ≡ steady start
+  pub faults_same : faults now ≡ faults start
+
+taken_starts : (at : ℕ) (a : Told) → HasTaken at [] false a a
+taken_starts at a = record {
+  rest = refl;
+  end = λ h. absurd (cc h);
+  content = refl;
+  written = refl;
+  name = refl;
+  taken = omega arith;
+  others = λ other differs. refl;
+  calls = [];
+  trace = sym (append-nil a.trace);
+}
+
+-- nothing is read yet
+pub progress_starts : (c : Checks) (p : ℕ × DataFile) (at : ℕ) (start : Option Told) (lines : LinesValue) (tally : Tally)
+    → lines ≡ record { most = c.most; number = 0; ended = false; line = []; rest = [] } → Tallied c p [] tally → Progress c p at start start lines tally
+progress_starts c p at start lines tally is tallied =
+    let ended : lines.ended ≡ false = ap (λ (v : LinesValue). v.ended) is in
+    record {
+      bytes = [];
+      given = [];
+      most = ap (λ (v : LinesValue). v.most) is;
+      number = ap (λ (v : LinesValue). v.number) is;
+      cut = λ more may. ap (λ (v : LinesValue). lines_of (v.rest ++ more)) (sym is);
+      tallied = tallied;
+      told = subst (λ (b : Bool). Goes (HasTaken at [] b) start start) (sym ended) (goes_same (HasTaken at [] false) (taken_starts at) start);
+    }
+
+-- one line more
+pub progress_line : (c : Checks) (p : ℕ × DataFile) (at : ℕ) (start now : Option Told) (lines lines' : LinesValue) (tally tally' : Tally) (n : ℕ) (line : List ℕ)
+    → Progress c p at start now lines tally → NextIs lines (cut.Line n) lines' → line ≡ lines'.line → TakesLine n line tally tally' → Progress c p at start now lines' tally'
+progress_line c p at start now lines lines' tally tally' n line h next same takes =
+    let number : n ≡ length h.given + 1 = next.0 ∙ ap (λ (k : ℕ). k + 1) h.number in
+    let given : List (List ℕ) = h.given ++ lines'.line ∷ [] in
+    let longer : length given ≡ length h.given + 1 = length-append h.given (lines'.line ∷ []) in
+    let ended : lines'.ended ≡ lines.ended = ap (λ (v : LinesValue). v.ended) next.4 in
+    record {
+      bytes = h.bytes;
+      given = given;
+      most = ap (λ (v : LinesValue). v.most) next.4 ∙ h.most;
+      number = ap (λ (v : LinesValue). v.number) next.4 ∙ number ∙ sym longer;
+      cut = λ rest may.
+          let may2 : MayCome lines.ended rest = λ e. may (ended ∙ e) in
+          h.cut rest may2 ∙ ap (λ (l : List (List ℕ)). h.given ++ l) (next.3 rest may2) ∙ sym (append_assoc h.given (lines'.line ∷ []) (lines_of (lines'.rest ++ rest)));
+      tallied = subst (λ (l : List ℕ). Tallied c p (h.given ++ l ∷ []) tally') same (takes c p h.given h.tallied number (subst (λ (k : ℕ). n ≤ k) h.most next.1));
+      told = subst (λ (b : Bool). Goes (HasTaken at h.bytes b) start now) (sym ended) h.told;
+    }
+
+-- ---- one piece more
+
+takes : (at : ℕ) (bytes piece : List ℕ) (before after : LinesValue) (a b d : Told) → after.rest ≡ before.rest ++ piece → HasTaken at bytes before.ended a b → TakesPiece at before after b d
+    → HasTaken at (bytes ++ piece) after.ended a d
+takes at bytes piece before after a b d is h t =
+    let same : t.piece ≡ piece = cancel before.rest t.piece piece (sym t.lines ∙ is) in
+    record {
+      rest = h.rest ∙ ap (λ (l : List ℕ). bytes ++ l) (t.rest ∙ ap (λ (l : List ℕ). l ++ rest_of d at) same) ∙ sym (append_assoc bytes piece (rest_of d at));
+      end = t.end;
+      content = t.content ∙ h.content;
+      written = t.written ∙ h.written;
+      name = t.name ∙ h.name;
+      taken = t.taken ∙ ap (λ (k : ℕ). k + length t.piece) h.taken ∙ omega (arith, ap length same, length-append bytes piece);
+      others = λ other differs. t.others other differs ∙ h.others other differs;
+      calls = h.calls ++ Read at (length t.piece) ∷ [];
+      trace = t.trace ∙ ap (λ (l : List Entry). l ++ Read at (length t.piece) ∷ []) h.trace ∙ append_assoc a.trace h.calls (Read at (length t.piece) ∷ []);
+    }
+  where
+    cancel : (xs ys zs : List ℕ) → xs ++ ys ≡ xs ++ zs → ys ≡ zs
+    cancel [] ys zs h = h
+    cancel (x ∷ xs) ys zs h = cancel xs ys zs (cc h)
+
+false_is : {P : Type 0} (b : Bool) → b ≡ false → b ≡ true → P
+false_is b f t = absurd (cc)
+
+progress_put : (c : Checks) (p : ℕ × DataFile) (at : ℕ) (start now next : Option Told) (lines lines' : LinesValue) (tally : Tally) (piece : List ℕ)
+    → Progress c p at start now lines tally → lines.ended ≡ false → lines'.rest ≡ lines.rest ++ piece → lines'.most ≡ lines.most → lines'.number ≡ lines.number
+    → Goes (TakesPiece at lines lines') now next → Progress c p at start next lines' tally
+progress_put c p at start now next lines lines' tally piece h live rest most number told = record {
+  bytes = h.bytes ++ piece;
+  given = h.given;
+  most = most ∙ h.most;
+  number = number ∙ h.number;
+  cut = λ more may.
+      ap lines_of (append_assoc h.bytes piece more) ∙ h.cut (piece ++ more) (λ e. false_is lines.ended live e)
+      ∙ ap (λ (l : List ℕ). h.given ++ lines_of l) (sym (append_assoc lines.rest piece more) ∙ ap (λ (l : List ℕ). l ++ more) (sym rest));
+  tallied = h.tallied;
+  told = goes_then (HasTaken at h.bytes lines.ended) (TakesPiece at lines lines') (HasTaken at (h.bytes ++ piece) lines'.ended)
+      (λ a b d r t. takes at h.bytes piece lines lines' a b d rest r t) start now next h.told told;
+}
+
+progress_more : (c : Checks) (p : ℕ × DataFile) (at : ℕ) (start now next : Option Told) (lines lines' : LinesValue) (tally : Tally)
+    → Progress c p at start now lines tally → lines.ended ≡ false → PutsPiece lines lines' → Goes (TakesPiece at lines lines') now next → Progress c p at start next lines' tally
+progress_more c p at start now next lines lines' tally h live (inl (piece, some, is)) told =
+    progress_put c p at start now next lines lines' tally piece h live (ap (λ (v : LinesValue). v.rest) is) (ap (λ (v : LinesValue). v.most) is) (ap (λ (v : LinesValue). v.number) is) told
+progress_more c p at start now next lines lines' tally h live (inr is) told =
+    progress_put c p at start now next lines lines' tally [] h live (ap (λ (v : LinesValue). v.rest) is ∙ sym (append-nil lines.rest)) (ap (λ (v : LinesValue). v.most) is) (ap (λ (v : LinesValue). v.number) is) told
+
+pub progress_piece : (c : Checks) (p : ℕ × DataFile) (at : ℕ) (start now next : Option Told) (lines lines1 lines' : LinesValue) (tally : Tally)
+    → Progress c p at start now lines tally → NextIs lines cut.More lines1 → PutsPiece lines1 lines' → Goes (TakesPiece at lines1 lines') now next → Progress c p at start next lines' tally
+progress_piece c p at start now next lines lines1 lines' tally h more puts told =
+    let same : lines1 ≡ lines = more.3 in
+    progress_more c p at start now next lines1 lines' tally (subst (λ (v : LinesValue). Progress c p at start now v tally) (sym same) h) (ap (λ (v : LinesValue). v.ended) same ∙ more.0) puts told
+
+pub number_stays : (lines lines1 lines' : LinesValue) → NextIs lines cut.More lines1 → PutsPiece lines1 lines' → lines'.number ≡ lines.number
+number_stays lines lines1 lines' more (inl (piece, some, is)) = ap (λ (v : LinesValue). v.number) is ∙ ap (λ (v : LinesValue). v.number) more.3
+number_stays lines lines1 lines' more (inr is) = ap (λ (v : LinesValue). v.number) is ∙ ap (λ (v : LinesValue). v.number) more.3
+
+-- ---- the measure
+
+-- a carriage return at the end is one byte
+strip_len : (line : List ℕ) → length line ≤ length (strip_carriage_return line) + 1
+strip_len line = strip_if (nat_eq (get_or line (length line - 1) 0) 13)
+  where
+    strip_if : (b : Bool) → length line ≤ length (cond b (take (length line - 1) line) line) + 1
+    strip_if true = let short = length-take-le (length line - 1) line (omega arith) in omega (arith, short)
+    strip_if false = omega arith
+
+abbrev flag : Bool → ℕ
+flag b = cond b 0 1
+
+abbrev pub left : LinesValue → ℕ
+left v = (v.most - v.number) * 5002 + (5000 - length v.rest) + cond v.ended 0 1
+
+step_piece : (lines lines' : LinesValue) → lines.ended ≡ false → length lines.rest ≤ 513 → PutsPiece lines lines' → left lines' < left lines
+step_piece lines lines' live short (inl (piece, some, is)) =
+    let rest : length lines'.rest ≡ length lines.rest + length piece = ap (λ (v : LinesValue). length v.rest) is ∙ length-append lines.rest piece in
+    let ended : flag lines'.ended ≡ 1 = ap flag (ap (λ (v : LinesValue). v.ended) is ∙ live) in
+    let old : flag lines.ended ≡ 1 = ap flag live in
+    let whole : (lines'.most - lines'.number) * 5002 ≡ (lines.most - lines.number) * 5002 = ap (λ (v : LinesValue). (v.most - v.number) * 5002) is in
+    omega (arith, rest, whole, ended, old, short, some)
+step_piece lines lines' live short (inr is) =
+    let rest : length lines'.rest ≡ length lines.rest = ap (λ (v : LinesValue). length v.rest) is in
+    let ended : flag lines'.ended ≡ 0 = ap flag (ap (λ (v : LinesValue). v.ended) is) in
+    let old : flag lines.ended ≡ 1 = ap flag live in
+    let whole : (lines'.most - lines'.number) * 5002 ≡ (lines.most - lines.number) * 5002 = ap (λ (v : LinesValue). (v.most - v.number) * 5002) is in
+    omega (arith, rest, whole, ended, old)
+
+pub less_left : (lines lines1 lines' : LinesValue) → NextIs lines cut.More lines1 → PutsPiece lines1 lines' → left lines' < left lines
+less_left lines lines1 lines' more puts =
+    let same : lines1 ≡ lines = more.3 in
+    let short : length lines.rest ≤ 513 = omega (arith, strip_len lines.rest, more.1.1) in
+    subst (λ (v : LinesValue). left lines' < left v) same
+    (step_piece lines1 lines' (ap (λ (v : LinesValue). v.ended) same ∙ more.0) (subst (λ (v : LinesValue). length v.rest ≤ 513) (sym same) short) puts)
+
+-- ---- stops
+
+-- a stop in a step that changed neither content nor outputs stops the reading
+stops : (c : Checks) (p : ℕ × DataFile) (at : ℕ) (bytes : List ℕ) (ended : Bool) (stop : Stop) (start now next : Told) → ((content more : List ℕ) → content ≡ bytes ++ more → MayCome ended more → IsBadIn c p content stop)
+    → HasTaken at bytes ended start now → StopsAt (Part p.0) (now.place at).name stop now next → StopsReading c p at stop start next
+stops c p at bytes ended stop start now next bad run s = record {
+  told = λ name_of named. stop_later name_of stop run.calls start now next run.trace (s.told name_of (named ∙ ap Some (sym run.name)));
+  bad = bad (rest_of start at) (rest_of now at) run.rest run.end;
+  content = s.content ∙ run.content;
+  written = s.written ∙ run.written;
+}
+
+here : (spot : Spot) (name : List ℕ) (stop : Stop) (a : Told) → ((name_of : Spot → Option (List ℕ)) → StopTold name_of stop a a) → StopsAt spot name stop a a
+here spot name stop a h = record { told = λ name_of named. h name_of; content = refl; written = refl }
+
+module _ (c : Checks) (p : ℕ × DataFile) (at : ℕ) (start now : Option Told) (lines : LinesValue) (tally : Tally) (h : Progress c p at start now lines tally) where
+  bad_at : (content more : List ℕ) (line : List ℕ) (others : List (List ℕ)) (f : LineFault) (part n : ℕ) → content ≡ h.bytes ++ more → MayCome lines.ended more
+      → lines_of (lines.rest ++ more) ≡ line ∷ others → part ≡ p.0 → n ≡ lines.number + 1 → next_fault c p h.given line ≡ Some f → IsBadIn c p content (BadLine part n f)
+  bad_at content more line others f part n is may next part_is n_is fault_is =
+      let parts : lines_of content ≡ h.given ++ line ∷ others = ap lines_of is ∙ h.cut more may ∙ ap (λ (l : List (List ℕ)). h.given ++ l) next in
+      let number : n ≡ length h.given + 1 = n_is ∙ ap (λ (k : ℕ). k + 1) h.number in
+      (part_is, bad_is c p content h.given line others f tally h.tallied parts fault_is ∙ ap (λ (k : ℕ). Some (k, f)) (sym number))
+
+  -- a line that the cutter refused
+  bad_cut : (n part : ℕ) (f : LineFault) (lines' : LinesValue) → part ≡ p.0 → NextIs lines (cut.Bad n f) lines' → (content more : List ℕ) → content ≡ h.bytes ++ more → MayCome lines.ended more → IsBadIn c p content (BadLine part n f)
+  bad_cut n part fault.TooLong lines' part_is k content more is may =
+      let found = k.2 more may in
+      let room : length h.given < c.most = omega (arith, k.0, k.1, h.most, h.number) in
+      bad_at content more found.0 found.1 fault.TooLong part n is may found.2 part_is k.0 (long_fault c p h.given found.0 room found.3)
+  bad_cut n part fault.TooMany lines' part_is k content more is may =
+      let found = k.2 more may in
+      let full : c.most ≤ length h.given = omega (arith, k.0, k.1, h.most, h.number) in
+      bad_at content more found.0 found.1 fault.TooMany part n is may found.2 part_is k.0 (many_fault c p h.given found.0 full)
+  bad_cut n part (fault.BadByte at) lines' part_is k content more is may = absurd k
+  bad_cut n part fault.Quote lines' part_is k content more is may = absurd k
+  bad_cut n part fault.Fields lines' part_is k content more is may = absurd k
+  bad_cut n part (fault.Number i) lines' part_is k content more is may = absurd k
+  bad_cut n part (fault.Key f) lines' part_is k content more is may = absurd k
+  bad_cut n part fault.KeyFull lines' part_is k content more is may = absurd k
+
+  pub stops_at_cut : (n part : ℕ) (f : LineFault) (lines' : LinesValue) (bad_part : part ≡ p.0) → NextIs lines (cut.Bad n f) lines' → Goes (StopsReading c p at (BadLine part n f)) start now
+  stops_at_cut n part f lines' part_is next =
+      goes_weaker (HasTaken at h.bytes lines.ended) (StopsReading c p at (BadLine part n f))
+      (λ a b r. stops c p at h.bytes lines.ended (BadLine part n f) a b b (bad_cut n part f lines' part_is next) r (here (Part p.0) (b.place at).name (BadLine part n f) b (λ name_of. tt))) start now h.told
+
+  bad_read : (n part : ℕ) (lines' : LinesValue) (stop : Stop) → part ≡ p.0 → NextIs lines (cut.Line n) lines' → StopsAtLine part n lines'.line tally stop
+      → (content more : List ℕ) → content ≡ h.bytes ++ more → MayCome lines.ended more → IsBadIn c p content stop
+  bad_read n part lines' (BadLine q k why) part_is next s content more is may =
+      let number : n ≡ length h.given + 1 = next.0 ∙ ap (λ (j : ℕ). j + 1) h.number in
+      bad_at content more lines'.line (lines_of (lines'.rest ++ more)) why q k is may (next.3 more may) (s.0 ∙ part_is) (s.1 ∙ next.0)
+      (s.2 c p h.given h.tallied number (subst (λ (j : ℕ). n ≤ j) h.most next.1))
+  bad_read n part lines' (Outside call spot) part_is next s content more is may = tt
+  bad_read n part lines' NoMemory part_is next s content more is may = tt
+
+  line_told : (part n : ℕ) (line : List ℕ) (stop : Stop) (a : Told) → StopsAtLine part n line tally stop → (name_of : Spot → Option (List ℕ)) → StopTold name_of stop a a
+  line_told part n line (BadLine q k why) a s name_of = tt
+  line_told part n line (Outside call spot) a s name_of = absurd s
+  line_told part n line NoMemory a s name_of = tt
+
+  pub stops_at_line : (n part : ℕ) (line : List ℕ) (lines' : LinesValue) (stop : Stop) → part ≡ p.0 → NextIs lines (cut.Line n) lines' → line ≡ lines'.line → StopsAtLine part n line tally stop
+      → Goes (StopsReading c p at stop) start now
+  stops_at_line n part line lines' stop part_is next same s =
+      goes_weaker (HasTaken at h.bytes lines.ended) (StopsReading c p at stop)
+      (λ a b r. stops c p at h.bytes lines.ended stop a b b (bad_read n part lines' stop part_is next (subst (λ (l : List ℕ). StopsAtLine part n l tally stop) same s)) r
+      (here (Part p.0) (b.place at).name stop b (line_told part n line stop b s))) start now h.told
+
+  none_bad : (stop : Stop) → IsNoBadLine stop → (content : List ℕ) → IsBadIn c p content stop
+  none_bad (BadLine part line why) k content = absurd k
+  none_bad (Outside call spot) k content = tt
+  none_bad NoMemory k content = tt
+
+  pub stops_at_read : (stop : Stop) (next : Option Told) → IsNoBadLine stop → Goes (λ a b. StopsAt (Part p.0) (a.place at).name stop a b) now next → Goes (StopsReading c p at stop) start next
+  stops_at_read stop next never told =
+      goes_then (HasTaken at h.bytes lines.ended) (λ a b. StopsAt (Part p.0) (a.place at).name stop a b) (StopsReading c p at stop)
+      (λ a b d r s. stops c p at h.bytes lines.ended stop a b d (λ content more is may. none_bad stop never content) r s) start now next h.told told
+
+  pub tallied_at_end : (count : ℕ) (lines' : LinesValue) → NextIs lines cut.End lines' → count ≡ lines.number → Goes (HasTallied c p at count tally) start now
+  tallied_at_end count lines' end count_is =
+      let none : (more : List ℕ) → MayCome lines.ended more → more ≡ [] = λ more may. may end.0 in
+      let all : lines_of h.bytes ≡ h.given =
+      ap lines_of (sym (append-nil h.bytes)) ∙ h.cut [] (λ e. refl) ∙ ap (λ (l : List ℕ). h.given ++ lines_of (l ++ [])) end.1 ∙ append-nil h.given in
+      goes_weaker (HasTaken at h.bytes lines.ended) (HasTallied c p at count tally) (λ a b r. record {
+        bytes = h.bytes;
+        left = r.rest ∙ ap (λ (l : List ℕ). h.bytes ++ l) (r.end end.0) ∙ append-nil h.bytes;
+        run = subst (λ (e : Bool). HasTaken at h.bytes e a b) end.0 r;
+        tallied = subst (λ (g : List (List ℕ)). Tallied c p g tally) (sym all) h.tallied;
+        count_is = count_is ∙ h.number ∙ ap length (sym all);
+      }) start now h.told
