@@ -1,5 +1,5 @@
 -- A tasklet that has taken nothing.
-use Rattle.std.proofs.Common.{◌≡◌, ℕ, zero, suc, ◌<◌, ◌≤◌, ◌^◌, Bool, true, false, cond, List, [], ◌∷◌, ◌++◌, map, replicate, length, get_or, refl, sym, ◌∙◌, ap, subst, arith}
+use Rattle.std.proofs.Common.{◌≡◌, ℕ, zero, suc, ◌<◌, ◌≤◌, ◌^◌, Bool, true, false, cond, List, [], ◌∷◌, ◌++◌, map, replicate, length, get_or, refl, sym, ◌∙◌, ap, subst, arith, inl}
 use Rattle.jet_items.specs.declared.item.Item.{Item}
 use Rattle.jet_items.specs.Order.{Each}
 use Rattle.jet_items.proofs.Orders.{Each-append, Each-more}
@@ -17,7 +17,7 @@ use Rattle.jet_tasklet.specs.Steps.{Working, entry_of}
 use Rattle.jet_tasklet.specs.declared.tasklet.Tasklet.{Tasklet}
 use Rattle.jet_tasklet.specs.Trace.{same_port, histories}
 use Rattle.jet_tasklet.specs.Inputs.{InputView, inputs_view, of_port, received, dones, queue_count}
-use Rattle.jet_tasklet.specs.Outputs.{OutputView, outputs_view, ready, Gave, Giving}
+use Rattle.jet_tasklet.specs.Outputs.{OutputView, outputs_view, ready, Gave, Giving, HasDest, AreOwed}
 use Rattle.jet_tasklet.specs.Keeps.{Keeps, Came, IsOver, told, IsEven, IsUnread, IsUnsent}
 use Rattle.jet_tasklet.proofs.Flat.{of_port_length}
 
@@ -71,14 +71,29 @@ gave_all : (rs : List router.View) → Each IsUnsent rs → Each (Gave []) (map 
 gave_all [] h = tt
 gave_all (v ∷ vs) h = (gave_none v h.0, gave_all vs h.1)
 
-pub new_keeps : {P : Type 0} (stands : P → List Entry → List Item → Type 0) (amid : P → List Entry → Entry → List Item → Type 0) (takes : P → Port → ℕ → Type 0) (t : Tasklet P) (rs : List router.View) → t.step ≡ step.Poll → t.outbox.items ≡ [] → 1 ≤ t.outbox.room → stands t.processor [] [] → ((port : Port) (q : ℕ) → q < queue_count port (inputs_view t.inputs.items) → takes t.processor port q) → ((port : Port) → queue_count port (inputs_view t.inputs.items) < 2 ^ 32) → Each IsUnread (inputs_view t.inputs.items) → Each IsUnsent rs → outputs_view t.outputs.items ≡ map ready rs → HasHeard t.coalescer (replicate (queue_count Stream (inputs_view t.inputs.items)) unheard) → Keeps stands amid takes t [] []
-new_keeps {P} stands amid takes t rs polls empty room new may few unread unsent outs heard_is = record {
+all_dests : (rs : List router.View) → Each HasDest rs → Each (λ (o : OutputView). HasDest o.router) (map ready rs)
+all_dests [] h = tt
+all_dests (v ∷ vs) h = (h.0, all_dests vs h.1)
+
+-- outputs that are ready wait
+owed_new : (rs : List router.View) → 0 < length rs → Each HasDest rs → Each IsUnsent rs → AreOwed (map ready rs)
+owed_new [] lt dests unsent = absurd (omega (arith, lt))
+owed_new (v ∷ vs) lt dests unsent =
+    let u : IsUnsent v = unsent.0 in
+    record {
+      dests = all_dests (v ∷ vs) dests;
+      some = inl (record { waits = refl; dest = dests.0; owes = λ e. absurd (cc (e, u.free)) });
+    }
+
+pub new_keeps : {P : Type 0} (stands : P → List Entry → List Item → Type 0) (amid : P → List Entry → Entry → List Item → Type 0) (takes : P → Port → ℕ → Type 0) (t : Tasklet P) (rs : List router.View) → t.step ≡ step.Poll → t.outbox.items ≡ [] → 1 ≤ t.outbox.room → stands t.processor [] [] → ((port : Port) (q : ℕ) → q < queue_count port (inputs_view t.inputs.items) → takes t.processor port q) → ((port : Port) → queue_count port (inputs_view t.inputs.items) < 2 ^ 32) → Each IsUnread (inputs_view t.inputs.items) → 0 < length rs → Each HasDest rs → Each IsUnsent rs → outputs_view t.outputs.items ≡ map ready rs → HasHeard t.coalescer (replicate (queue_count Stream (inputs_view t.inputs.items)) unheard) → Keeps stands amid takes t [] []
+new_keeps {P} stands amid takes t rs polls empty room new may few unread some dests unsent outs heard_is = record {
   takes_in = came_none (inputs_view t.inputs.items) t.coalescer unread few heard_is;
   gives_out = subst (λ (xs : List Item). Giving [] xs (outputs_view t.outputs.items)) (sym empty) (subst (λ (vs : List OutputView). Each (Gave []) vs) (sym outs) (gave_all rs unsent));
   works = subst (λ (s : Step). Working stands amid takes t.processor s (told s (queue_count Stream (inputs_view t.inputs.items)) []) t.outbox.items) (sym polls) (subst (λ (xs : List Item). stands t.processor [] xs) (sym empty) new);
   takes_all = may;
   over = subst (λ (s : Step). IsOver s (inputs_view t.inputs.items)) (sym polls) tt;
   room = room;
+  owed = subst AreOwed (sym outs) (owed_new rs some dests unsent);
 }
 
 -- ---- other relations that the processor keeps
@@ -96,4 +111,5 @@ keeps_as stands other amid between takes f h t came gave k = record {
   takes_all = k.takes_all;
   over = k.over;
   room = k.room;
+  owed = k.owed;
 }

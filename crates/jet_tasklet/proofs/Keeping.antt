@@ -30,12 +30,15 @@ use Rattle.jet_coalescer.specs.Low.{HasHeard}
 use Rattle.jet_tasklet.specs.Trace.{of_queue, has_ended, asks, heard}
 use Rattle.jet_tasklet.specs.Taking.{Took}
 use Rattle.jet_tasklet.specs.Noting.{Notes}
-use Rattle.jet_tasklet.specs.Leaving.{Leaves}
+use Rattle.std.specs.List.{AllZip}
+use Rattle.jet_tasklet.specs.Turned.{OutputGoes}
+use Rattle.jet_tasklet.specs.Leaving.{Leaves, IsStopped}
 use Rattle.jet_tasklet.specs.Turning.{rank, rank_of}
 use Rattle.jet_tasklet.specs.Keeps.{Came, IsLawful, Goes}
 use Rattle.jet_tasklet.proofs.Pushing.{entries-push}
 use Rattle.jet_tasklet.proofs.Coming.{came_push, was_open, within_count, count_stays, heard_count}
 use Rattle.jet_tasklet.proofs.Giving.{giving_more}
+use Rattle.jet_tasklet.proofs.Owing.{owed_after}
 use Rattle.jet_tasklet.proofs.Telling.{unfinished, head_may}
 
 abbrev pub step_after : Result Bool NoMemory → Pending → Step
@@ -110,6 +113,7 @@ module _ {P : Type 0} (stands : P → List Entry → List Item → Type 0) (amid
         takes_all = λ port q lt. stay t.processor p port q did.settings (k.takes_all port q lt);
         over = over_after r c (inputs_view t.inputs.items) (subst (λ (s : Step). IsOver s (inputs_view t.inputs.items)) is k.over);
         room = subst (λ (m : ℕ). 1 ≤ m) (sym did.room) k.room;
+        owed = k.owed;
       }
 
   -- Done was put
@@ -125,6 +129,7 @@ module _ {P : Type 0} (stands : P → List Entry → List Item → Type 0) (amid
         takes_all = k.takes_all;
         over = subst (λ (s : Step). IsOver s (inputs_view t.inputs.items)) is k.over;
         room = subst (λ (m : ℕ). 1 ≤ m) (sym (ap (λ (h : Held). h.room) put)) k.room;
+        owed = k.owed;
       }
 
   -- nothing is left to take
@@ -141,11 +146,12 @@ module _ {P : Type 0} (stands : P → List Entry → List Item → Type 0) (amid
         takes_all = k.takes_all;
         over = done;
         room = k.room;
+        owed = k.owed;
       }
 
   -- items left the outbox
-  pub give_keeps : (t : Tasklet P) (outs : Vec Output Global) (out : Held) (came : List Arrival) (gave : List Item) → Leaves t.outbox.items (outputs_view t.outputs.items) out.items (outputs_view outs.items) → out.room ≡ t.outbox.room → Keeps stands amid takes t came gave → (more : List Item) × Keeps stands amid takes (record { processor = t.processor; inputs = t.inputs; outputs = outs; coalescer = t.coalescer; step = t.step; outbox = out }) came (gave ++ more)
-  give_keeps t outs out came gave leaves room k =
+  pub give_keeps : (t : Tasklet P) (outs : Vec Output Global) (out : Held) (came : List Arrival) (gave : List Item) → Leaves t.outbox.items (outputs_view t.outputs.items) out.items (outputs_view outs.items) → out.room ≡ t.outbox.room → AllZip OutputGoes (outputs_view t.outputs.items) (outputs_view outs.items) → IsStopped out.items (outputs_view outs.items) → Keeps stands amid takes t came gave → (more : List Item) × Keeps stands amid takes (record { processor = t.processor; inputs = t.inputs; outputs = outs; coalescer = t.coalescer; step = t.step; outbox = out }) came (gave ++ more)
+  give_keeps t outs out came gave leaves room goes stops k =
       let l = leaves gave k.gives_out in
       let es : List Entry = told t.step (queue_count Stream (inputs_view t.inputs.items)) came in
       let same : gave ++ t.outbox.items ≡ (gave ++ l.0) ++ out.items = ap (λ (xs : List Item). gave ++ xs) l.1 ∙ sym (append_assoc gave l.0 out.items) in (
@@ -157,6 +163,7 @@ module _ {P : Type 0} (stands : P → List Entry → List Item → Type 0) (amid
           takes_all = k.takes_all;
           over = k.over;
           room = subst (λ (m : ℕ). 1 ≤ m) (sym room) k.room;
+          owed = owed_after (outputs_view t.outputs.items) (outputs_view outs.items) (gave ++ l.0) out.items k.owed goes stops l.2;
         },
       )
 
@@ -169,6 +176,7 @@ module _ {P : Type 0} (stands : P → List Entry → List Item → Type 0) (amid
     takes_all = subst (λ (vs : List InputView). (port : Port) (q : ℕ) → q < queue_count port vs → takes t.processor port q) (sym same) k.takes_all;
     over = subst (λ (vs : List InputView). IsOver t.step vs) (sym same) k.over;
     room = k.room;
+    owed = k.owed;
   }
 
   -- what an item asks is owed next
@@ -213,6 +221,7 @@ module _ {P : Type 0} (stands : P → List Entry → List Item → Type 0) (amid
         takes_all = λ port q lt. k.takes_all port q (subst (λ (m : ℕ). q < m) (count_stays vs ws a took port) lt);
         over = over_going next ws note.goes_on;
         room = k.room;
+        owed = k.owed;
       }
 
   pub goes_refl : (a : Tasklet P) → Goes stands amid takes a a

@@ -1,12 +1,19 @@
+pub mod AnyMeeting
+pub mod Chaining
 pub mod Coming
+pub mod Crossing
 pub mod Flat
 pub mod Fresh
+pub mod Ending
 pub mod Giving
 pub mod Heard
 pub mod Keeping
+pub mod Lasting
 pub mod Latest
 pub mod Lowest
+pub mod Meeting
 pub mod Merging
+pub mod Owing
 pub mod Popped
 pub mod Ports
 pub mod Pushed
@@ -17,3 +24,4 @@ pub mod Stepping
 pub mod Telling
 pub mod Tracing
 pub mod Turning
+pub mod Stamping

@@ -11,7 +11,7 @@ use Rattle.jet_tasklet.specs.Keeps.{IsEven}
 use Rattle.jet_tasklet.specs.Taking.{Took}
 
 -- one element in the place of another
-sum_put : {X : Type 0} (f : X → ℕ) (ys : List X) (i : ℕ) (b d : X) → i < length ys → sum_by f (set ys i b) + f (get_or ys i d) ≡ sum_by f ys + f b
+pub sum_put : {X : Type 0} (f : X → ℕ) (ys : List X) (i : ℕ) (b d : X) → i < length ys → sum_by f (set ys i b) + f (get_or ys i d) ≡ sum_by f ys + f b
 sum_put f [] i b d lt = absurd (omega (arith, lt))
 sum_put f (a ∷ ys) zero b d lt =
     let new = sum_first f b ys in
@@ -28,9 +28,9 @@ at_place Q [] i d lt h = absurd (omega (arith, lt))
 at_place Q (x ∷ xs) zero d lt h = h.0
 at_place Q (x ∷ xs) (suc i) d lt h = at_place Q xs i d (omega (arith, lt)) h.1
 
--- an item that was taken was received
-pub took_rises : (before after : List InputView) (port : Port) (a : Arrival) → Each IsEven before → Took before after port a → received_count before < received_count after
-took_rises before after port a even t =
+-- one item was received
+pub took_one : (before after : List InputView) (port : Port) (a : Arrival) → Each IsEven before → Took before after port a → received_count after ≡ received_count before + 1
+took_one before after port a even t =
     let was : IsEven t.was = subst IsEven (sym t.at) (at_place IsEven before t.place t.was t.inside even) in
     let rs : List (List Item) = t.was.queues.received in
     let of : InputView → ℕ = λ i. sum_by (λ (xs : List Item). length xs) i.queues.received in

@@ -193,23 +193,12 @@ module _ {P : Type 0} where
             inr (starves a b c d ok none roomy (λ e. going (sym step_is ∙ e, empty_of o.outbox.items was)) first takes begins second free full kept.0 sent)
       ]
 
-nothing_left : (left xs ys : List Item) → ys ≡ left ++ xs → length ys ≤ length xs → ys ≡ xs
-nothing_left [] xs ys is le = is
-nothing_left (x ∷ left) xs ys is le =
-    let count : length ys ≡ length (x ∷ (left ++ xs)) = ap (λ (zs : List Item). length zs) is in
-    let sum = length-append left xs in
-    absurd (omega (arith, count, sum, le))
-
 nothing_put : (put xs ys : List Item) → ys ≡ xs ++ put → length ys ≤ length xs → ys ≡ xs
 nothing_put [] xs ys is le = is ∙ append-nil xs
 nothing_put (x ∷ put) xs ys is le =
     let count : length ys ≡ length (xs ++ x ∷ put) = ap (λ (zs : List Item). length zs) is in
     let sum = length-append xs (x ∷ put) in
     absurd (omega (arith, count, sum, le))
-
-or_cases : (a b : Bool) → (a || b) ≡ true → (a ≡ true) ⊎ (b ≡ true)
-or_cases true b e = inl refl
-or_cases false b e = inr e
 
 pub none_of : (a b : Bool) → (a || b) ≡ false → (a ≡ false) × (b ≡ false)
 none_of true b e = absurd (cc)
@@ -235,41 +224,44 @@ module _ {P : Type 0} where
   pub rooms_on : (a b c d : Tasklet P) → Worked a b → BeginsFinish b c → Worked c d → d.outbox.room ≡ a.outbox.room
   rooms_on a b c d first begins second = second.room ∙ (ap (λ (h : Held). h.room) (box_kept b c begins).0 ∙ first.room)
 
-  -- a turn in which something was pushed, something was taken, or the outbox changed
-  pub moving : (o a b c d : Tasklet P) (p q r s : Bool) → Says p (sent_count (outputs_view o.outputs.items)) (sent_count (outputs_view a.outputs.items)) → Says q (received_count (inputs_view a.inputs.items)) (received_count (inputs_view b.inputs.items)) → a.inputs ≡ o.inputs → b.outputs ≡ a.outputs → (left : List Item) × (o.outbox.items ≡ left ++ a.outbox.items) → (q ≡ false → Worked a b) → BeginsFinish b c → Worked c d → (r ≡ true → length a.outbox.items < length o.outbox.items) → (q ≡ false → s ≡ true → length a.outbox.items < length d.outbox.items) → (((p || q) || r) || s) ≡ true → Moves o d
-  moving o a b c d true q r s pushed took ins outs left first begins second fewer more is =
+  -- a turn in which something was pushed, something was taken, or something was put
+  pub moving : (o a b c d : Tasklet P) (p q s : Bool) → Says p (sent_count (outputs_view o.outputs.items)) (sent_count (outputs_view a.outputs.items)) → Says q (received_count (inputs_view a.inputs.items)) (received_count (inputs_view b.inputs.items)) → a.inputs ≡ o.inputs → b.outputs ≡ a.outputs → (p ≡ false → a.outbox.items ≡ o.outbox.items) → (q ≡ false → Worked a b) → BeginsFinish b c → Worked c d → (q ≡ false → s ≡ true → length a.outbox.items < length d.outbox.items) → ((p || q) || s) ≡ true → Moves o d
+  moving o a b c d true q s pushed took ins outs stays first begins second more is =
       let same = outputs_on a b c d outs begins second in
       let lt : sent_count (outputs_view o.outputs.items) < sent_count (outputs_view a.outputs.items) = pushed in
       inl (omega (arith, same, lt))
-  moving o a b c d false true r s pushed took ins outs left first begins second fewer more is =
+  moving o a b c d false true s pushed took ins outs stays first begins second more is =
       let same : received_count (inputs_view d.inputs.items) ≡ received_count (inputs_view b.inputs.items) = ap received_count (inputs_on b c d begins second) in
       let start : received_count (inputs_view a.inputs.items) ≡ received_count (inputs_view o.inputs.items) = ap (λ (v : Vec Input Global). received_count (inputs_view v.items)) ins in
       let lt : received_count (inputs_view a.inputs.items) < received_count (inputs_view b.inputs.items) = took in
       inr (inl (omega (arith, same, start, lt)))
-  moving o a b c d false false r s pushed took ins outs left first begins second fewer more is =
+  moving o a b c d false false s pushed took ins outs stays first begins second more is =
       let puts = items_on a b c d (first refl) begins second in
-      let gone = length-append left.0 a.outbox.items in
-      let was : length o.outbox.items ≡ length (left.0 ++ a.outbox.items) = ap (λ (xs : List Item). length xs) left.1 in
       let come = length-append a.outbox.items puts.0 in
       let now : length d.outbox.items ≡ length (a.outbox.items ++ puts.0) = ap (λ (xs : List Item). length xs) puts.1 in
-      inr (inr (record {
-        left = left.0;
-        stay = a.outbox.items;
-        put = puts.0;
-        was = left.1;
-        is = puts.1;
-        some = elim (or_cases r s is) [
-          | inl e ↦ let lt = fewer e in omega (arith, gone, was, lt)
-          | inr e ↦ let lt = more refl e in omega (arith, come, now, lt)
-        ];
-      }))
+      let lt = more refl is in
+      inr (inr (record { put = puts.0; some = omega (arith, come, now, lt); is = puts.1 ∙ ap (λ (xs : List Item). xs ++ puts.0) (stays refl) }))
 
   -- a turn in which none of these was
-  pub stilled : (o a b c d : Tasklet P) → sent_count (outputs_view a.outputs.items) ≡ sent_count (outputs_view o.outputs.items) → a.inputs ≡ o.inputs → (left : List Item) × (o.outbox.items ≡ left ++ a.outbox.items) → Worked a b → BeginsFinish b c → Worked c d → length o.outbox.items ≤ length a.outbox.items → length d.outbox.items ≤ length a.outbox.items → IsStill o d
-  stilled o a b c d pushed ins left first begins second fewer more =
+  pub stilled : (o a b c d : Tasklet P) → sent_count (outputs_view a.outputs.items) ≡ sent_count (outputs_view o.outputs.items) → a.inputs ≡ o.inputs → a.outbox.items ≡ o.outbox.items → Worked a b → BeginsFinish b c → Worked c d → length d.outbox.items ≤ length a.outbox.items → IsStill o d
+  stilled o a b c d pushed ins stays first begins second more =
       let puts = items_on a b c d first begins second in
       record {
         sent = outputs_on a b c d first.outputs begins second ∙ pushed;
         inputs = inputs_on b c d begins second ∙ (first.inputs ∙ ap (λ (v : Vec Input Global). inputs_view v.items) ins);
-        outbox = nothing_put puts.0 a.outbox.items d.outbox.items puts.1 more ∙ sym (nothing_left left.0 a.outbox.items o.outbox.items left.1 fewer);
+        outbox = nothing_put puts.0 a.outbox.items d.outbox.items puts.1 more ∙ stays;
       }
+
+  -- a tasklet that is left as it was has not moved
+  pub moves_not : (t : Tasklet P) → Moves t t → ⊥
+  moves_not t m = elim m [
+    | inl lt ↦ omega (arith, lt)
+    | inr rest ↦ elim rest [
+      | inl lt ↦ omega (arith, lt)
+      | inr enters ↦
+          let some = enters.some in
+          let sum = length-append t.outbox.items enters.put in
+          let count : length t.outbox.items ≡ length (t.outbox.items ++ enters.put) = ap (λ (xs : List Item). length xs) enters.is in
+          omega (arith, some, sum, count)
+    ]
+  ]

@@ -16,7 +16,7 @@ use Rattle.jet_tasklet.specs.declared.tasklet.Tasklet.{Tasklet}
 use Rattle.jet_tasklet.specs.Trace.{of_queue, has_ended, heard, entries}
 use Rattle.jet_tasklet.specs.InOrder.{InOrder}
 use Rattle.jet_tasklet.specs.Inputs.{InputView, inputs_view, received, dones, queue_count, all_done}
-use Rattle.jet_tasklet.specs.Outputs.{outputs_view, Giving}
+use Rattle.jet_tasklet.specs.Outputs.{outputs_view, Giving, AreOwed}
 use Rattle.jet_tasklet.specs.Steps.{Working, finale}
 
 abbrev pub IsBuild : Arrival → Type 0
@@ -53,8 +53,8 @@ IsOver step.Ended inputs = (port : Port) → all_done port inputs ≡ true
 abbrev pub told : Step → ℕ → List Arrival → List Entry
 told next n came = entries n came ++ finale next
 
--- the tasklet took these items, its processor stands for what follows from them, and each output was given these items
--- whole, of those that the processor gave
+-- the tasklet took these items, its processor stands for what follows from them, each output was given these items whole,
+-- of those that the processor gave, and some output has not had the front of the outbox
 pub record Keeps {P : Type 0} (stands : P → List Entry → List Item → Type 0) (amid : P → List Entry → Entry → List Item → Type 0) (takes : P → Port → ℕ → Type 0) (t : Tasklet P) (came : List Arrival) (gave : List Item) : Type 0 where
   pub takes_in : Came (inputs_view t.inputs.items) t.coalescer came
   pub gives_out : Giving gave t.outbox.items (outputs_view t.outputs.items)
@@ -62,6 +62,7 @@ pub record Keeps {P : Type 0} (stands : P → List Entry → List Item → Type 
   pub takes_all : (port : Port) (q : ℕ) → q < queue_count port (inputs_view t.inputs.items) → takes t.processor port q
   pub over : IsOver t.step (inputs_view t.inputs.items)
   pub room : 1 ≤ t.outbox.room
+  pub owed : AreOwed (outputs_view t.outputs.items)
 
 -- there are items that came and that were given of which the tasklet keeps this
 pub record IsLawful {P : Type 0} (stands : P → List Entry → List Item → Type 0) (amid : P → List Entry → Entry → List Item → Type 0) (takes : P → Port → ℕ → Type 0) (t : Tasklet P) : Type 0 where

@@ -1,6 +1,10 @@
+pub mod Any
+pub mod Ending
+pub mod Chain
 pub mod InOrder
 pub mod Inputs
 pub mod Keeps
+pub mod Kinds
 pub mod Leaving
 pub mod Lending
 pub mod Merging
@@ -10,4 +14,6 @@ pub mod Sending
 pub mod Steps
 pub mod Taking
 pub mod Trace
+pub mod Turned
 pub mod Turning
+pub mod StampInOrder

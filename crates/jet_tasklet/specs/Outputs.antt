@@ -1,5 +1,5 @@
 -- What a contract sees of the outputs of a tasklet.
-use Rattle.std.specs.Prelude.{◌≡◌, Bool, true, false, cond, List, [], ◌∷◌, ◌++◌, ◌⊎◌, map, ℕ, ◌<◌, sum_by}
+use Rattle.std.specs.Prelude.{◌≡◌, Bool, true, false, cond, List, [], ◌∷◌, ◌++◌, ◌⊎◌, map, ℕ, ◌<◌, sum_by, get_or, length}
 use Rattle.jet_items.specs.declared.item.Item.{Item}
 use Rattle.jet_items.specs.Order.{Each}
 use Rattle.jet_router.specs.Router as router
@@ -49,6 +49,24 @@ IsBlocked x o = (o.had ≡ false) × IsFull o.router x
 abbrev pub SomeBlocked : Item → List OutputView → Type 0
 SomeBlocked x [] = ⊥
 SomeBlocked x (o ∷ os) = IsBlocked x o ⊎ SomeBlocked x os
+
+abbrev pub HasDest : router.View → Type 0
+HasDest v = 0 < length (router.rings v)
+
+-- an output has not had the front of the outbox, and where that is in hand, a destination has not had it
+pub record Waits (o : OutputView) : Type 0 where
+  pub waits : o.had ≡ false
+  pub dest : HasDest o.router
+  pub owes : o.router.busy ≡ true → (k : ℕ) × (get_or (router.hads o.router) k true ≡ false)
+
+abbrev pub SomeWaits : List OutputView → Type 0
+SomeWaits [] = ⊥
+SomeWaits (o ∷ os) = Waits o ⊎ SomeWaits os
+
+-- each output has a destination, and some output has not had the front of the outbox
+pub record AreOwed (outputs : List OutputView) : Type 0 where
+  pub dests : Each (λ o. HasDest o.router) outputs
+  pub some : SomeWaits outputs
 
 -- how many items all destinations were sent
 abbrev pub sent_count : List OutputView → ℕ

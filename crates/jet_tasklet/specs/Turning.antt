@@ -1,5 +1,5 @@
 -- How a tasklet stands in a turn, and why it may have nothing to do.
-use Rattle.std.specs.Prelude.{◌≡◌, ℕ, ◌<◌, ◌&&◌, ◌⊎◌, Bool, true, false, ◌+◌, List, [], ◌∷◌, ◌++◌, length}
+use Rattle.std.specs.Prelude.{◌≡◌, ℕ, ◌<◌, ◌&&◌, ◌⊎◌, Bool, true, false, List, [], ◌∷◌, ◌++◌, length}
 use Rattle.jet_items.specs.declared.item.Item.{Item}
 use Rattle.jet_boxes.specs.Held.{Held}
 use Rattle.jet_boxes.specs.declared.port.Port.TheVariants.{Stream, Build}
@@ -76,18 +76,15 @@ TakesNone t = IsFull t.outbox ⊎ ((t.step ≡ step.Ended) ⊎ ((t.step ≡ step
 abbrev pub BeginsFinish : {P : Type 0} → Tasklet P → Tasklet P → Type 0
 BeginsFinish a b = (b ≡ record a { step = step.Make call.Finish }) ⊎ ((b ≡ a) × (a.step ≡ step.Poll → all_ended (inputs_view a.inputs.items) ≡ false))
 
--- some items left a list at its front, or entered it at its end
-pub record Shifts (before after : List Item) : Type 0 where
-  pub left : List Item
-  pub stay : List Item
+-- some items entered a list at its end, and none left it
+pub record Enters (before after : List Item) : Type 0 where
   pub put : List Item
-  pub was : before ≡ left ++ stay
-  pub is : after ≡ stay ++ put
-  pub some : 0 < length left + length put
+  pub some : 0 < length put
+  pub is : after ≡ before ++ put
 
--- an item was pushed into a ring, popped from one, or left or entered the outbox
+-- an item was pushed into a ring or popped from one, or entered an outbox that none left
 abbrev pub Moves : {P : Type 0} → Tasklet P → Tasklet P → Type 0
-Moves a b = (sent_count (outputs_view a.outputs.items) < sent_count (outputs_view b.outputs.items)) ⊎ ((received_count (inputs_view a.inputs.items) < received_count (inputs_view b.inputs.items)) ⊎ Shifts a.outbox.items b.outbox.items)
+Moves a b = (sent_count (outputs_view a.outputs.items) < sent_count (outputs_view b.outputs.items)) ⊎ ((received_count (inputs_view a.inputs.items) < received_count (inputs_view b.inputs.items)) ⊎ Enters a.outbox.items b.outbox.items)
 
 -- none was
 pub record IsStill {P : Type 0} (a b : Tasklet P) : Type 0 where

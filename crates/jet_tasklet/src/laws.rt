@@ -1,5 +1,5 @@
 // What holds of every tasklet by what it keeps.
-ghost use Rattle.std.specs.Prelude.{◌≡◌, ◌↔◌, ◌⊎◌, ℕ, Bool, ◌<◌, ◌≤◌, List, [], ◌∷◌, ◌++◌, true, false, ◌^◌, map, get_or, Ok, IfOk, OnErr};
+ghost use Rattle.std.specs.Prelude.{◌≡◌, ◌↔◌, ◌⊎◌, ℕ, Bool, ◌<◌, ◌≤◌, List, [], ◌∷◌, ◌++◌, true, false, ◌^◌, map, get_or, Ok, IfOk, OnErr, Some, slice_get};
 ghost use Rattle.jet_items.specs.declared.item.Item.{Item};
 ghost use Rattle.jet_boxes.specs.Calls.{Call, MayCall};
 ghost use Rattle.jet_tasklet.specs.declared.arrival.Arrival.{Arrival};
@@ -27,7 +27,13 @@ impl<P: Processor> Tasklet<P> {
     ghost use Rattle.jet_tasklet.specs.Outputs.{outputs_view, sent_count, Says};
     ghost use Rattle.jet_tasklet.specs.Sending.{EachReceived, EachSent, EachFront};
     ghost use Rattle.jet_tasklet.specs.Turning.{is_free, rank, HasEnded, Worked, TakesNone, BeginsFinish, IsFull, IsBlocked, IsStarved, Moves, IsStill};
+    ghost use Rattle.jet_tasklet.specs.Ending.{Brings, Ends, Makes, Passes};
     ghost use Rattle.jet_tasklet.specs.Leaving.{IsStopped};
+    ghost use Rattle.jet_tasklet.specs.Lending.{with_input, with_output};
+    ghost use Rattle.jet_conveyor.specs.Conveyor as conveyor;
+    ghost use Rattle.jet_conveyor.specs.declared.conveyor.Conveyor.{Conveyor};
+    ghost use Rattle.jet_router.specs.Router as router;
+    ghost use Rattle.jet_router.specs.declared.router.Router.{Router};
 
     /// In a tasklet the laws of its processor hold of all that it was told, less what is pending.
     pub fn keeps_laws(&self)
@@ -67,5 +73,27 @@ impl<P: Processor> Tasklet<P> {
             → (q : ℕ) → q < queue_count Stream (inputs_view self.now.inputs.items) → get_or (dones Stream (inputs_view self.now.inputs.items)) q true ≡ false
             → last_told (told self.now.step (queue_count Stream (inputs_view self.now.inputs.items)) came)
             ≡ low (histories (queue_count Stream (inputs_view self.now.inputs.items)) (λ q. get_or (received Stream (inputs_view self.now.inputs.items)) q [])) }
+    {}
+
+    /// A meeting of an end that the tasklet has lent out leaves what came to it, what it gave and what it keeps.
+    pub fn keeps_at_meetings(&self)
+        ensures input { (came : List Arrival) → (gave : List Item) → (n q : ℕ) → (was w : Conveyor) → Keeps P.stands P.amid P.takes self.now came gave
+            → slice_get (map (λ i. i.conveyor) self.now.inputs.items) n ≡ Some was → conveyor.Refreshed (conveyor.view was) (conveyor.view w) q
+            → Keeps P.stands P.amid P.takes (with_input self.now n was w) came gave }
+        ensures output { (came : List Arrival) → (gave : List Item) → (n d : ℕ) → (was w : Router) → Keeps P.stands P.amid P.takes self.now came gave
+            → slice_get (map (λ o. o.router) self.now.outputs.items) n ≡ Some was → router.Refreshed (router.view was) (router.view w) d
+            → Keeps P.stands P.amid P.takes (with_output self.now n was w) came gave }
+    {}
+
+    /// Once a tasklet has ended, its processor has taken the data of all queues, each output was given what the bag law
+    /// says of that, whatever the order in which it came, and Done behind it. So where each queue brought what flows to
+    /// it, what leaves is made of all that flows in: one step of an induction over a DAG.
+    pub fn ends_with_its_flow(&self)
+        ensures ends { (came : List Arrival) → (gave : List Item) → Keeps P.stands P.amid P.takes self.now came gave → HasEnded self.now
+            → Ends (P.bag self.now.processor) (inputs_view self.now.inputs.items) (outputs_view self.now.outputs.items) }
+        ensures flows { (came : List Arrival) → (gave : List Item) → (seen made : List Item → List Item) → (flow : Port → ℕ → List Item)
+            → Keeps P.stands P.amid P.takes self.now came gave → HasEnded self.now
+            → Makes (P.bag self.now.processor) seen made → Brings flow (inputs_view self.now.inputs.items)
+            → Passes seen made flow (inputs_view self.now.inputs.items) (outputs_view self.now.outputs.items) }
     {}
 }

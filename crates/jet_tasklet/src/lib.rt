@@ -8,19 +8,27 @@
 //! contracts alone.
 #![tactic(auto)]
 
+mod any;
 mod arrival;
 mod call;
 mod input;
 mod inputs;
 mod laws;
+mod lend;
 mod note;
 mod output;
 mod outputs;
 mod progress;
+mod stamp_laws;
 mod step;
 mod tasklet;
 
+pub use any::AnyTasklet;
 pub use arrival::Arrival;
 pub use input::Input;
 pub use progress::Progress;
+pub use stamp_laws::stamps_send_in_order;
 pub use tasklet::Tasklet;
+
+#[cfg(test)]
+mod tests;

@@ -1,9 +1,10 @@
 // Outputs: routers, each with what it has had of the outbox.
-ghost use Rattle.std.specs.Prelude.{◌≡◌, true, false, List};
+ghost use Rattle.std.specs.Prelude.{◌≡◌, ◌⊎◌, true, false, List};
 ghost use Rattle.jet_items.specs.declared.item.Item.{Item};
-ghost use Rattle.jet_router.specs.Router.{SameRouter, sent_count};
+ghost use Rattle.jet_router.specs.Router.{sent_count};
 ghost use Rattle.jet_router.specs.Deals.{IsFull};
-ghost use Rattle.jet_tasklet.specs.Outputs.{output_view, InGift, Says};
+ghost use Rattle.jet_tasklet.specs.Outputs.{output_view, InGift, Waits, Says};
+ghost use Rattle.jet_tasklet.specs.Turned.{OutputGoes};
 
 use jet_items::Item;
 use jet_router::{Given, Router};
@@ -20,9 +21,10 @@ impl Output {
     pub(crate) fn give(&mut self, item: &Item) -> bool
         requires { (gave : List Item) × InGift gave item.now (output_view self.old) }
         ensures gives { (gave : List Item) → InGift gave item.now (output_view self.old) → InGift gave item.now (output_view self.new) }
-        ensures same { SameRouter (output_view self.old).router (output_view self.new).router }
+        ensures goes { OutputGoes (output_view self.old) (output_view self.new) }
         ensures full { (output_view self.new).had ≡ false → IsFull (output_view self.new).router item.now }
         ensures keeps { (output_view self.old).had ≡ true → output_view self.new ≡ output_view self.old }
+        ensures waits { Waits (output_view self.old) → (result ≡ true) ⊎ Waits (output_view self.new) }
         ensures pushed { Says result (sent_count (output_view self.old).router) (sent_count (output_view self.new).router) }
     {
         if self.had {

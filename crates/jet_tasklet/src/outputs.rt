@@ -4,8 +4,10 @@ ghost use Rattle.jet_items.specs.declared.item.Item.{Item};
 ghost use Rattle.jet_items.specs.Order.{Each};
 ghost use Rattle.jet_router.specs.Router.{view};
 ghost use Rattle.jet_router.specs.Deals.{IsFull};
-ghost use Rattle.jet_tasklet.specs.Outputs.{output_view, outputs_view, ready, InGift, Giving, SomeBlocked, sent_count, Says};
+ghost use Rattle.jet_tasklet.specs.Outputs.{output_view, outputs_view, ready, InGift, Giving, SomeBlocked, SomeWaits, sent_count, Says};
 ghost use Rattle.jet_tasklet.specs.Leaving.{Leaves, IsStopped};
+ghost use Rattle.jet_tasklet.specs.Turned.{OutputGoes};
+ghost use Rattle.std.specs.List.{AllZip};
 
 use crate::output::Output;
 use jet_boxes::Outbox;
@@ -29,6 +31,8 @@ fn give_each(outputs: &mut [Output], item: &Item) -> bool
     requires { (gave : List Item) × Each (InGift gave item.now) (outputs_view outputs.old) }
     ensures gives { (gave : List Item) → Each (InGift gave item.now) (outputs_view outputs.old) → Each (InGift gave item.now) (outputs_view outputs.new) }
     ensures full { Each (λ o. o.had ≡ false → IsFull o.router item.now) (outputs_view outputs.new) }
+    ensures goes { AllZip OutputGoes (outputs_view outputs.old) (outputs_view outputs.new) }
+    ensures waits { SomeWaits (outputs_view outputs.old) → (result ≡ true) ⊎ SomeWaits (outputs_view outputs.new) }
     ensures pushed { Says result (sent_count (outputs_view outputs.old)) (sent_count (outputs_view outputs.new)) }
 {
     let mut pushed = false;
@@ -66,7 +70,10 @@ fn give_front(outputs: &mut [Output], outbox: &mut Outbox) -> Fate
     requires { (gave : List Item) × Giving gave outbox.old.items (outputs_view outputs.old) }
     ensures leaves { Leaves outbox.old.items (outputs_view outputs.old) outbox.new.items (outputs_view outputs.new) }
     ensures room { outbox.new.room ≡ outbox.old.room }
+    ensures goes { AllZip OutputGoes (outputs_view outputs.old) (outputs_view outputs.new) }
     ensures fewer { result.left ≡ true → length outbox.new.items < length outbox.old.items }
+    ensures stays { result.left ≡ false → outbox.new.items ≡ outbox.old.items }
+    ensures pushes { SomeWaits (outputs_view outputs.old) → result.left ≡ true → result.pushed ≡ true }
     ensures stops { result.left ≡ false → IsStopped outbox.new.items (outputs_view outputs.new) }
     ensures pushed { Says result.pushed (sent_count (outputs_view outputs.old)) (sent_count (outputs_view outputs.new)) }
 {
@@ -95,6 +102,8 @@ pub(crate) fn give_out(outputs: &mut [Output], outbox: &mut Outbox) -> bool
     requires { (gave : List Item) × Giving gave outbox.old.items (outputs_view outputs.old) }
     ensures leaves { Leaves outbox.old.items (outputs_view outputs.old) outbox.new.items (outputs_view outputs.new) }
     ensures room { outbox.new.room ≡ outbox.old.room }
+    ensures goes { AllZip OutputGoes (outputs_view outputs.old) (outputs_view outputs.new) }
+    ensures stays { SomeWaits (outputs_view outputs.old) → result ≡ false → outbox.new.items ≡ outbox.old.items }
     ensures stops { IsStopped outbox.new.items (outputs_view outputs.new) }
     ensures pushed { Says result (sent_count (outputs_view outputs.old)) (sent_count (outputs_view outputs.new)) }
 {

@@ -1,5 +1,5 @@
 // A tasklet over any processor.
-ghost use Rattle.std.specs.Prelude.{◌≡◌, ◌↔◌, ◌⊎◌, ℕ, Bool, ◌<◌, ◌≤◌, List, [], ◌∷◌, ◌++◌, true, false, ◌^◌, map, get_or, Ok, IfOk, OnErr};
+ghost use Rattle.std.specs.Prelude.{◌≡◌, ◌↔◌, ◌⊎◌, ℕ, Bool, ◌<◌, ◌≤◌, ◌+◌, List, [], ◌∷◌, ◌++◌, true, false, ◌^◌, map, length, get_or, Ok, IfOk, OnErr};
 ghost use Rattle.jet_items.specs.declared.item.Item.{Item};
 ghost use Rattle.jet_boxes.specs.Calls.{Call, MayCall};
 ghost use Rattle.jet_tasklet.specs.declared.arrival.Arrival.{Arrival};
@@ -16,7 +16,6 @@ use crate::step::{Pending, Step};
 use crate::{Arrival, Input, Progress};
 use jet_boxes::{Outbox, Port, Processor};
 use jet_coalescer::Coalescer;
-use jet_conveyor::Conveyor;
 use jet_items::{Item, NoMemory};
 use jet_router::Router;
 use std::alloc::Global;
@@ -25,8 +24,8 @@ use std::alloc::Global;
 #[derive(Drop)]
 pub struct Tasklet<P> {
     processor: P,
-    inputs: Vec<Input>,
-    outputs: Vec<Output>,
+    pub(crate) inputs: Vec<Input>,
+    pub(crate) outputs: Vec<Output>,
     // The watermark of the stream queues.
     coalescer: Coalescer,
     step: Step,
@@ -47,13 +46,14 @@ impl<P: Processor> Tasklet<P> {
     ghost use Rattle.jet_items.specs.Order.{Sound, Closed as ClosedItems};
     ghost use Rattle.jet_boxes.specs.Entry.{Entry, items_of};
     ghost use Rattle.jet_boxes.specs.declared.port.Port.TheVariants.{Stream, Build};
-    ghost use Rattle.jet_tasklet.specs.Outputs.{outputs_view, sent_count, Says};
+    ghost use Rattle.jet_tasklet.specs.Outputs.{outputs_view, ready, HasDest, sent_count, Says};
     ghost use Rattle.jet_tasklet.specs.Sending.{EachReceived, EachSent, EachFront};
     ghost use Rattle.jet_tasklet.specs.Turning.{is_free, rank, HasEnded, Worked, TakesNone, BeginsFinish, IsFull, IsBlocked, IsStarved, Moves, IsStill};
     ghost use Rattle.jet_tasklet.specs.Leaving.{IsStopped};
+    ghost use Rattle.jet_tasklet.specs.Turned.{Turned};
 
     /// A tasklet that has taken nothing, with an outbox for `room` items. The processor, the conveyors and the routers are
-    /// new.
+    /// new, and there is at least one router.
     pub fn new(
         alloc: Global,
         processor: P,
@@ -67,9 +67,15 @@ impl<P: Processor> Tasklet<P> {
         requires few { (port : Port) → queue_count port (inputs_view inputs.items) < 2 ^ 32 }
         requires new { P.stands processor [] [] }
         requires takes { (port : Port) → (q : ℕ) → q < queue_count port (inputs_view inputs.items) → P.takes processor port q }
+        requires some { 0 < length outputs.items }
+        requires dests { Each HasDest (map view outputs.items) }
         requires unread { Each IsUnread (inputs_view inputs.items) }
         requires unsent { Each IsUnsent (map view outputs.items) }
-        ensures { IfOk result (λ t. Keeps P.stands P.amid P.takes t [] []) }
+        ensures keeps { IfOk result (λ t. Keeps P.stands P.amid P.takes t [] []) }
+        ensures room { IfOk result (λ t. t.outbox.room ≡ room) }
+        ensures processor { IfOk result (λ t. t.processor ≡ processor) }
+        ensures inputs { IfOk result (λ t. t.inputs ≡ inputs) }
+        ensures outputs { IfOk result (λ t. outputs_view t.outputs.items ≡ map ready (map view outputs.items)) }
     {
         let queues = count_queues(&inputs, Port::Stream);
         let coalescer = Coalescer::new(alloc, queues)?;
@@ -90,7 +96,9 @@ impl<P: Processor> Tasklet<P> {
         requires free { self.old.step ≡ step.Poll }
         requires keeps { IsLawful P.stands P.amid P.takes self.old }
         ensures keeps { Goes P.stands P.amid P.takes self.old self.new }
+        ensures turned { Turned P.same self.old self.new }
         ensures took { Says result (received_count (inputs_view self.old.inputs.items)) (received_count (inputs_view self.new.inputs.items)) }
+        ensures few { received_count (inputs_view self.new.inputs.items) ≤ received_count (inputs_view self.old.inputs.items) + 1 }
         ensures outputs { self.new.outputs ≡ self.old.outputs }
         ensures none { result ≡ false → Worked self.old self.new × (self.new.step ≡ step.Poll) × NoneToTake (inputs_view self.new.inputs.items) }
     {
@@ -108,6 +116,7 @@ impl<P: Processor> Tasklet<P> {
         requires pending { self.old.step ≡ step.Make pending.now }
         requires keeps { IsLawful P.stands P.amid P.takes self.old }
         ensures keeps { Goes P.stands P.amid P.takes self.old self.new }
+        ensures turned { Turned P.same self.old self.new }
         ensures wants { OnErr result (P.frugal ≡ false) }
         ensures next { result ≡ Ok true → self.new.step ≡ next_of pending.now }
         ensures worked { Worked self.old self.new }
@@ -124,6 +133,7 @@ impl<P: Processor> Tasklet<P> {
     fn put_done(&mut self) -> bool
         requires finished { self.old.step ≡ step.End }
         ensures keeps { Goes P.stands P.amid P.takes self.old self.new }
+        ensures turned { Turned P.same self.old self.new }
         ensures ended { result ≡ true → self.new.step ≡ step.Ended }
         ensures worked { Worked self.old self.new }
         ensures full { result ≡ false → IsFull self.new.outbox }
@@ -140,6 +150,7 @@ impl<P: Processor> Tasklet<P> {
         requires pending { is_free self.old.step ≡ false }
         requires keeps { IsLawful P.stands P.amid P.takes self.old }
         ensures keeps { Goes P.stands P.amid P.takes self.old self.new }
+        ensures turned { Turned P.same self.old self.new }
         ensures wants { OnErr result (P.frugal ≡ false) }
         ensures smaller { result ≡ Ok true → rank self.new.step < rank self.old.step }
         ensures worked { Worked self.old self.new }
@@ -157,6 +168,7 @@ impl<P: Processor> Tasklet<P> {
     fn work(&mut self) -> Result<bool, NoMemory>
         requires keeps { IsLawful P.stands P.amid P.takes self.old }
         ensures keeps { Goes P.stands P.amid P.takes self.old self.new }
+        ensures turned { Turned P.same self.old self.new }
         ensures wants { OnErr result (P.frugal ≡ false) }
         ensures free { result ≡ Ok true → is_free self.new.step ≡ true }
         ensures worked { Worked self.old self.new }
@@ -174,8 +186,10 @@ impl<P: Processor> Tasklet<P> {
     fn take_next(&mut self) -> Result<bool, NoMemory>
         requires keeps { IsLawful P.stands P.amid P.takes self.old }
         ensures keeps { Goes P.stands P.amid P.takes self.old self.new }
+        ensures turned { Turned P.same self.old self.new }
         ensures wants { OnErr result (P.frugal ≡ false) }
         ensures took { IfOk result (λ took. Says took (received_count (inputs_view self.old.inputs.items)) (received_count (inputs_view self.new.inputs.items))) }
+        ensures few { received_count (inputs_view self.new.inputs.items) ≤ received_count (inputs_view self.old.inputs.items) + 1 }
         ensures outputs { self.new.outputs ≡ self.old.outputs }
         ensures none { result ≡ Ok false → Worked self.old self.new × TakesNone self.new }
     {
@@ -192,15 +206,17 @@ impl<P: Processor> Tasklet<P> {
     fn take_items(&mut self) -> Result<bool, NoMemory>
         requires keeps { IsLawful P.stands P.amid P.takes self.old }
         ensures keeps { Goes P.stands P.amid P.takes self.old self.new }
+        ensures turned { Turned P.same self.old self.new }
         ensures wants { OnErr result (P.frugal ≡ false) }
         ensures took { IfOk result (λ took. Says took (received_count (inputs_view self.old.inputs.items)) (received_count (inputs_view self.new.inputs.items))) }
+        ensures few { received_count (inputs_view self.new.inputs.items) ≤ received_count (inputs_view self.old.inputs.items) + 64 }
         ensures outputs { self.new.outputs ≡ self.old.outputs }
         ensures none { result ≡ Ok false → Worked self.old self.new × TakesNone self.new }
     {
         if !self.take_next()? {
             return Ok(false);
         }
-        'items: for _ in 1..64 {
+        'items: for _taken in 1u32..64 {
             if !self.take_next()? {
                 return Ok(true);
             }
@@ -218,6 +234,7 @@ impl<P: Processor> Tasklet<P> {
     // Begins the finish once every queue is done.
     fn begin_finish(&mut self)
         ensures keeps { Goes P.stands P.amid P.takes self.old self.new }
+        ensures turned { Turned P.same self.old self.new }
         ensures begins { BeginsFinish self.old self.new }
     {
         if !self.is_polling() {
@@ -232,12 +249,13 @@ impl<P: Processor> Tasklet<P> {
     fn give(&mut self) -> bool
         requires keeps { IsLawful P.stands P.amid P.takes self.old }
         ensures keeps { Goes P.stands P.amid P.takes self.old self.new }
+        ensures turned { Turned P.same self.old self.new }
         ensures stops { IsStopped self.new.outbox.items (outputs_view self.new.outputs.items) }
         ensures step { self.new.step ≡ self.old.step }
         ensures room { self.new.outbox.room ≡ self.old.outbox.room }
         ensures inputs { self.new.inputs ≡ self.old.inputs }
         ensures pushed { Says result (sent_count (outputs_view self.old.outputs.items)) (sent_count (outputs_view self.new.outputs.items)) }
-        ensures left { (left : List Item) × (self.old.outbox.items ≡ left ++ self.new.outbox.items) }
+        ensures stays { result ≡ false → self.new.outbox.items ≡ self.old.outbox.items }
     {
         give_out(&mut self.outputs, &mut self.outbox)
     }
@@ -257,6 +275,8 @@ impl<P: Processor> Tasklet<P> {
     pub fn turn(&mut self) -> Result<Progress, NoMemory>
         requires keeps { IsLawful P.stands P.amid P.takes self.old }
         ensures keeps { Goes P.stands P.amid P.takes self.old self.new }
+        ensures turned { Turned P.same self.old self.new }
+        ensures few { received_count (inputs_view self.new.inputs.items) ≤ received_count (inputs_view self.old.inputs.items) + 64 }
         ensures wants { OnErr result (P.frugal ≡ false) }
         ensures done { result ≡ Ok progress.Done → HasEnded self.old × (self.new ≡ self.old) }
         ensures after { HasEnded self.old → result ≡ Ok progress.Done }
@@ -267,47 +287,17 @@ impl<P: Processor> Tasklet<P> {
         if self.has_ended() {
             return Ok(Progress::Done);
         }
-        let before = self.outbox.free();
         let pushed = self.give();
         let room = self.outbox.free();
         let took = self.take_items()?;
         self.begin_finish();
         self.work()?;
         let after = self.outbox.free();
-        let moved = pushed | took | (before < room) | (after < room);
+        let moved = pushed | took | (after < room);
         if moved {
             Ok(Progress::Moved)
         } else {
             Ok(Progress::Idle)
         }
-    }
-}
-
-impl<P: Processor> Tasklet<P> {
-    ghost use Rattle.std.specs.Prelude.{◌≡◌, ◌<◌, length, Some, slice_get, map};
-    ghost use Rattle.std.specs.Borrow.{sem, Lends};
-    ghost use Rattle.jet_tasklet.specs.Lending.{with_input, with_output};
-    ghost use Rattle.jet_conveyor.specs.contracts.conveyor.Conveyor as conveyor;
-    ghost use Rattle.jet_router.specs.contracts.router.Router as router;
-    ghost use Rattle.jet_tasklet.specs.contracts.tasklet.Tasklet.{the_row};
-
-    /// The conveyor of one input, for meetings with the other ends of its queues.
-    pub fn input(&mut self, n: u32) -> &mut Conveyor
-        requires { n < length self.old.inputs.items }
-        ensures* writes_back { sem 𝓛 (Lends (the_row P.row) conveyor.the_row self.entry result (with_input self.entry.now n result.now)) }
-        ensures value { slice_get (map (λ i. i.conveyor) self.old.inputs.items) n ≡ Some result.now }
-    {
-        let lent = &mut self.inputs[n as usize];
-        &mut lent.conveyor
-    }
-
-    /// The router of one output, for meetings with the other ends of its destinations.
-    pub fn output(&mut self, n: u32) -> &mut Router
-        requires { n < length self.old.outputs.items }
-        ensures* writes_back { sem 𝓛 (Lends (the_row P.row) router.the_row self.entry result (with_output self.entry.now n result.now)) }
-        ensures value { slice_get (map (λ o. o.router) self.old.outputs.items) n ≡ Some result.now }
-    {
-        let lent = &mut self.outputs[n as usize];
-        &mut lent.router
     }
 }

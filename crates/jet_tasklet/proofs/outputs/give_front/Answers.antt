@@ -1,10 +1,14 @@
-use Rattle.std.proofs.Common.{◌≡◌, ℕ, true, List, sym, ◌∙◌, ap, subst}
+use Rattle.std.proofs.Common.{◌≡◌, ℕ, true, List, inl, inr, sym, ◌∙◌, ap, subst}
 use Rattle.std.specs.Prelude.{All}
 use Rattle.jet_items.specs.declared.item.Item.{Item}
 use Rattle.jet_tasklet.specs.declared.output.Output.{Output}
 use Rattle.jet_tasklet.specs.Outputs.{OutputView, outputs_view, Giving, sent_count, Says}
+use Rattle.std.specs.List.{AllZip}
+use Rattle.jet_tasklet.specs.Turned.{OutputGoes}
+use Rattle.jet_tasklet.proofs.Lasting.{zip_refl, output_stays, outputs_trans, outputs_ready}
 use Rattle.jet_tasklet.proofs.Pushed.{count_ready}
 use Rattle.jet_tasklet.specs.Leaving.{Leaves, IsStopped}
+use Rattle.jet_tasklet.proofs.Owing.{none_waits}
 use Rattle.jet_tasklet.proofs.Giving.{front_is, popped, leaves_part, leaves_front, blocked_unless}
 use Rattle.jet_tasklet.proofs.outputs.give_front.Goals as goal
 
@@ -40,7 +44,25 @@ returns-clause-leaves c =
     let rest : c.pop.new.self.items ≡ f.0 = popped c.pop.result c.args.outbox.now c.pop.new.self x f.0 c.pop.ensures.empty.0 c.pop.ensures.taken f.1 in
     subst (λ (ys : List Item). Leaves c.args.outbox.now.items os ys qs) (sym rest) (subst (λ (xs : List Item). Leaves xs os f.0 qs) (sym f.1) (leaves_front x f.0 os ps qs c.give_each-pushed.ensures.gives had c.clear.ensures))
 
+pub returns-clause-pushes : goal.returns-clause-pushes
+returns-clause-pushes c = λ some e.
+    let had : All (λ o. o.had ≡ true) c.give_each-pushed.new.outputs = c.have_all.ensures.0 c.if-not-have_all.false in
+    elim (c.give_each-pushed.ensures.waits some) [
+      | inl is ↦ is
+      | inr still ↦ absurd (none_waits c.give_each-pushed.new.outputs had still)
+    ]
+
 pub returns-clause-pushed : goal.returns-clause-pushed
 returns-clause-pushed c =
     let same : sent_count (outputs_view c.clear.new.outputs) ≡ sent_count (outputs_view c.give_each-pushed.new.outputs) = ap sent_count c.clear.ensures ∙ count_ready (outputs_view c.give_each-pushed.new.outputs) in
     subst (λ (n : ℕ). Says c.give_each-pushed.result (sent_count (outputs_view c.args.outputs.now)) n) (sym same) c.give_each-pushed.ensures.pushed
+
+pub returns-clause-goes : goal.returns-clause-goes
+returns-clause-goes c =
+    let os : List OutputView = outputs_view c.args.outputs.now in
+    let ps : List OutputView = outputs_view c.give_each-pushed.new.outputs in
+    let last : AllZip OutputGoes ps (outputs_view c.clear.new.outputs) = subst (λ (vs : List OutputView). AllZip OutputGoes ps vs) (sym c.clear.ensures) (outputs_ready ps) in
+    outputs_trans os ps (outputs_view c.clear.new.outputs) c.give_each-pushed.ensures.goes last
+
+pub returns-in_default-clause-goes : goal.returns-in_default-clause-goes
+returns-in_default-clause-goes c = zip_refl OutputGoes output_stays (outputs_view c.args.outputs.now)

@@ -1,9 +1,14 @@
 use Rattle.std.proofs.lemmas.Bool.{eqb-false}
-use Rattle.std.proofs.Common.{◌≡◌, ℕ, zero, suc, ◌+◌, ◌<◌, ◌≤◌, Bool, true, false, not, nat_eq, refl, sym, ◌∙◌, ap, arith, eqb-true}
+use Rattle.std.proofs.Common.{◌≡◌, ℕ, zero, suc, ◌+◌, ◌<◌, ◌≤◌, Bool, true, false, not, nat_eq, refl, sym, ◌∙◌, ap, subst, inl, inr, arith, eqb-true}
 use Rattle.jet_router.specs.Router.{View, view, sent_count, free_count}
+use Rattle.jet_router.specs.Aim.{key_of}
 use Rattle.jet_router.proofs.Counting.{sent_and_free, free_falls}
 use Rattle.jet_tasklet.specs.Outputs.{Says}
 use Rattle.jet_tasklet.proofs.Giving.{given_next, is_all, not_all}
+use Rattle.jet_items.specs.declared.item.Item.{Item}
+use Rattle.jet_tasklet.proofs.Owing.{given_waits, says_true}
+use Rattle.jet_tasklet.proofs.Lasting.{output_stays}
+use Rattle.jet_tasklet.specs.Outputs.{output_view, Waits}
 use Rattle.jet_tasklet.proofs.output.Output.give.Goals as goal
 use Rattle.jet_tasklet.proofs.output.Output.give.Goals.{in-All, in_default}
 
@@ -40,3 +45,27 @@ returns-clause-pushed c =
     let sum = sent_and_free a b c.give.ensures.reach in
     let falls = free_falls a b c.give.ensures.fewer in
     says_by (nat_eq c.free.result c.free-free.result) (sent_count a) (sent_count b) c.free-free.result c.free.result refl (omega (arith, before, after, sum)) (omega (arith, before, after, falls))
+
+pub returns-clause-waits : goal.returns-clause-waits
+returns-clause-waits c =
+    let a : View = view c.args.self.now.router in
+    let b : View = view c.give.new.self in
+    let x : Item = c.args.item.now in
+    let is : c.match-matches.self ≡ is_all c.give.result = elim c.match-matches.branch [
+      | in-All w ↦ w.self-is ∙ sym (ap is_all w.in-All.is)
+      | in_default w ↦ w.self-is ∙ sym (not_all c.give.result w.in_default.not-All)
+    ] in
+    let says = returns-clause-pushed c in λ w.
+    elim (given_waits a b c.give.result a.route a.table (key_of x) x c.args.self.now.had c.give.ensures.same.rings_kept c.give.ensures.gives w) [
+      | inl lt ↦ inl (says_true (not (nat_eq c.free.result c.free-free.result)) (sent_count a) (sent_count b) says lt)
+      | inr still ↦ inr (subst (λ (h : Bool). Waits (record { router = b; had = h })) (sym is) still)
+    ]
+
+pub returns-then-self-clause-waits : goal.returns-then-self-clause-waits
+returns-then-self-clause-waits c = λ w. inr w
+
+pub returns-clause-goes : goal.returns-clause-goes
+returns-clause-goes c = record { same = c.give.ensures.same; sent = c.give.ensures.more; still_free = c.give.ensures.reach }
+
+pub returns-then-self-clause-goes : goal.returns-then-self-clause-goes
+returns-then-self-clause-goes c = output_stays (output_view c.args.self.now)

@@ -1,10 +1,11 @@
-use Rattle.std.proofs.Common.{◌≡◌, sym, ◌∙◌, ap, subst, inl, inr}
+use Rattle.std.proofs.Common.{◌≡◌, refl, sym, ◌∙◌, ap, subst, inl, inr}
 use Rattle.std.specs.Prelude.{Result, Ok, Bool}
 use Rattle.jet_items.specs.declared.no_memory.NoMemory.{NoMemory}
 use Rattle.jet_tasklet.specs.declared.step.Step.{Step}
 use Rattle.jet_tasklet.specs.Keeps.{Keeps}
 use Rattle.jet_tasklet.proofs.Keeping.{make_keeps, step_after, goes_same}
 use Rattle.jet_tasklet.proofs.Turning.{worked_make}
+use Rattle.jet_tasklet.proofs.Lasting.{turned_still}
 use Rattle.jet_tasklet.proofs.tasklet.Tasklet.make.Goals as goal
 
 pub returns-in_err-ended-clause-keeps : goal.returns-in_err-ended-clause-keeps
@@ -33,3 +34,12 @@ returns-then-ended-clause-worked g c = worked_make c.args.self.now c.call.new.pr
 
 pub returns-else-ended-clause-worked : goal.returns-else-ended-clause-worked
 returns-else-ended-clause-worked g c = worked_make c.args.self.now c.call.new.processor c.call.new.out c.args.pending.now c.call.result _ c.requires.pending c.call.ensures (inl c.requires.pending)
+
+pub returns-in_err-ended-clause-turned : goal.returns-in_err-ended-clause-turned
+returns-in_err-ended-clause-turned g c = turned_still g.P.Processor.same c.args.self.now _ c.call.ensures.settings c.call.ensures.room refl refl
+
+pub returns-then-ended-clause-turned : goal.returns-then-ended-clause-turned
+returns-then-ended-clause-turned g c = turned_still g.P.Processor.same c.args.self.now _ c.call.ensures.settings c.call.ensures.room refl refl
+
+pub returns-else-ended-clause-turned : goal.returns-else-ended-clause-turned
+returns-else-ended-clause-turned g c = turned_still g.P.Processor.same c.args.self.now _ c.call.ensures.settings c.call.ensures.room refl refl

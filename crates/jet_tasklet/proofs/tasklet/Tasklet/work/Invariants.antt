@@ -1,4 +1,5 @@
 use Rattle.jet_tasklet.specs.Keeps.{Goes}
+use Rattle.jet_tasklet.specs.Turned.{Turned}
 use Rattle.jet_tasklet.specs.Turning.{rank, Worked}
 use Rattle.jet_tasklet.proofs.tasklet.Tasklet.work.Given as goal
 
@@ -9,4 +10,5 @@ abbrev pub invariant-calls : goal.invariant-calls
 invariant-calls g l = record {
   keeps : Goes g.P.Processor.stands g.P.Processor.amid g.P.Processor.takes l.initial.self l.self;
   worked : Worked l.initial.self l.self;
+  turned : Turned g.P.Processor.same l.initial.self l.self;
 }

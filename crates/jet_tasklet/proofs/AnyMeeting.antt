@@ -1,0 +1,34 @@
+-- Tasklets of any kind, kind by kind.
+use Rattle.std.proofs.Common.{◌≡◌, ℕ, List, map}
+use Rattle.std.specs.Prelude.{Some, slice_get}
+use Rattle.jet_items.specs.declared.item.Item.{Item}
+use Rattle.jet_conveyor.specs.declared.conveyor.Conveyor.{Conveyor}
+use Rattle.jet_conveyor.specs.Conveyor as conveyor
+use Rattle.jet_router.specs.declared.router.Router.{Router}
+use Rattle.jet_router.specs.Router as router
+use Rattle.jet_tasklet.specs.declared.arrival.Arrival.{Arrival}
+use Rattle.jet_tasklet.specs.declared.any.AnyTasklet.{AnyTasklet}
+use Rattle.jet_tasklet.specs.declared.any.AnyTasklet.TheVariants as any
+use Rattle.jet_tasklet.specs.Kinds.{stamps, maps, filters, flats, joins, frames, combines, inputs_of, outputs_of}
+use Rattle.jet_tasklet.specs.Any.{AnyKeeps, any_with_input, any_with_output}
+use Rattle.jet_tasklet.proofs.Meeting.{input_keeps, output_keeps}
+
+-- the conveyor of one input met
+pub any_input_keeps : (t : AnyTasklet) (came : List Arrival) (gave : List Item) (n q : ℕ) (was w : Conveyor) → AnyKeeps t came gave → slice_get (map (λ i. i.conveyor) (inputs_of t)) n ≡ Some was → conveyor.Refreshed (conveyor.view was) (conveyor.view w) q → AnyKeeps (any_with_input t n was w) came gave
+any_input_keeps (any.Stamp t) came gave n q was w k at met = input_keeps stamps.stands stamps.amid stamps.takes t came gave n q was w at met k
+any_input_keeps (any.Map t) came gave n q was w k at met = input_keeps maps.stands maps.amid maps.takes t came gave n q was w at met k
+any_input_keeps (any.Filter t) came gave n q was w k at met = input_keeps filters.stands filters.amid filters.takes t came gave n q was w at met k
+any_input_keeps (any.Flat t) came gave n q was w k at met = input_keeps flats.stands flats.amid flats.takes t came gave n q was w at met k
+any_input_keeps (any.Join t) came gave n q was w k at met = input_keeps joins.stands joins.amid joins.takes t came gave n q was w at met k
+any_input_keeps (any.Frame t) came gave n q was w k at met = input_keeps frames.stands frames.amid frames.takes t came gave n q was w at met k
+any_input_keeps (any.Combine t) came gave n q was w k at met = input_keeps combines.stands combines.amid combines.takes t came gave n q was w at met k
+
+-- the router of one output met
+pub any_output_keeps : (t : AnyTasklet) (came : List Arrival) (gave : List Item) (n d : ℕ) (was w : Router) → AnyKeeps t came gave → slice_get (map (λ o. o.router) (outputs_of t)) n ≡ Some was → router.Refreshed (router.view was) (router.view w) d → AnyKeeps (any_with_output t n was w) came gave
+any_output_keeps (any.Stamp t) came gave n d was w k at met = output_keeps stamps.stands stamps.amid stamps.takes t came gave n d was w at met k
+any_output_keeps (any.Map t) came gave n d was w k at met = output_keeps maps.stands maps.amid maps.takes t came gave n d was w at met k
+any_output_keeps (any.Filter t) came gave n d was w k at met = output_keeps filters.stands filters.amid filters.takes t came gave n d was w at met k
+any_output_keeps (any.Flat t) came gave n d was w k at met = output_keeps flats.stands flats.amid flats.takes t came gave n d was w at met k
+any_output_keeps (any.Join t) came gave n d was w k at met = output_keeps joins.stands joins.amid joins.takes t came gave n d was w at met k
+any_output_keeps (any.Frame t) came gave n d was w k at met = output_keeps frames.stands frames.amid frames.takes t came gave n d was w at met k
+any_output_keeps (any.Combine t) came gave n d was w k at met = output_keeps combines.stands combines.amid combines.takes t came gave n d was w at met k

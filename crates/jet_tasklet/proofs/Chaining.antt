@@ -1,0 +1,204 @@
+-- Chains of tasklets through turns and meetings.
+use Rattle.std.proofs.Common.{◌≡◌, ℕ, zero, suc, ◌<◌, List, [], ◌∷◌, ◌++◌, map, length, get_or, set, Bool, false, refl, sym, ◌∙◌, ap, subst, arith}
+use Rattle.std.specs.Prelude.{Option, Some, slice_get}
+use Rattle.std.specs.List.{AllZip}
+use Rattle.jet_items.specs.declared.item.Item.{Item}
+use Rattle.jet_items.specs.Order.{Each}
+use Rattle.jet_boxes.specs.declared.port.Port.{Port}
+use Rattle.jet_boxes.specs.declared.port.Port.TheVariants.{Stream}
+use Rattle.jet_boxes.specs.Entry.{Entry}
+use Rattle.jet_ring.specs.Ring.{Ring, TxView}
+use Rattle.jet_conveyor.specs.declared.conveyor.Conveyor.{Conveyor}
+use Rattle.jet_conveyor.specs.Conveyor as conveyor
+use Rattle.jet_router.specs.declared.router.Router.{Router}
+use Rattle.jet_router.specs.Router as router
+use Rattle.jet_router.specs.Dest.{DestView}
+use Rattle.jet_tasklet.specs.declared.tasklet.Tasklet.{Tasklet}
+use Rattle.jet_tasklet.specs.declared.input.Input.{Input}
+use Rattle.jet_tasklet.specs.declared.output.Output.{Output}
+use Rattle.jet_tasklet.specs.declared.any.AnyTasklet.{AnyTasklet}
+use Rattle.jet_tasklet.specs.declared.any.AnyTasklet.TheVariants as any
+use Rattle.jet_tasklet.specs.Inputs.{InputView, inputs_view}
+use Rattle.jet_tasklet.specs.Outputs.{OutputView, outputs_view}
+use Rattle.jet_tasklet.specs.Turned.{InputGoes, OutputGoes, Turned}
+use Rattle.jet_tasklet.specs.Keeps.{IsLawful, Goes}
+use Rattle.jet_tasklet.specs.Kinds.{stamps, maps, filters, flats, joins, frames, combines, inputs_of, outputs_of}
+use Rattle.jet_tasklet.specs.Any.{AnyIsLawful, AnyGoes, AnyTurned, any_with_input, any_with_output}
+use Rattle.jet_tasklet.specs.Chain.{ring_in, ring_out, Ends, ends_of, all_ends, AreLinked, AreJoined, IsChain}
+use Rattle.jet_tasklet.proofs.Meeting.{input_keeps, output_keeps}
+
+-- ---- a turn
+ring_in_stays : (vs ws : List InputView) → AllZip InputGoes vs ws → ring_in ws ≡ ring_in vs
+ring_in_stays [] [] h = refl
+ring_in_stays [] (w ∷ ws) h = absurd h
+ring_in_stays (v ∷ vs) [] h = absurd h
+ring_in_stays (v ∷ vs) (w ∷ ws) h = ap (λ (rs : List Ring). slice_get rs 0) h.0.rings
+
+ring_out_stays : (os ps : List OutputView) → AllZip OutputGoes os ps → ring_out ps ≡ ring_out os
+ring_out_stays [] [] h = refl
+ring_out_stays [] (p ∷ ps) h = absurd h
+ring_out_stays (o ∷ os) [] h = absurd h
+ring_out_stays (o ∷ os) (p ∷ ps) h = ap (λ (rs : List Ring). slice_get rs 0) h.0.same.rings_kept
+
+abbrev ends_by : Option Ring → Option Ring → Ends
+ends_by a b = record { takes = a; gives = b }
+
+turned_ends : {P : Type 0} (same : P → P → Type 0) (a b : Tasklet P) → Turned same a b → ends_by (ring_in (inputs_view b.inputs.items)) (ring_out (outputs_view b.outputs.items)) ≡ ends_by (ring_in (inputs_view a.inputs.items)) (ring_out (outputs_view a.outputs.items))
+turned_ends same a b h =
+    ap (λ (r : Option Ring). ends_by r (ring_out (outputs_view b.outputs.items))) (ring_in_stays (inputs_view a.inputs.items) (inputs_view b.inputs.items) h.inputs)
+    ∙ ap (λ (r : Option Ring). ends_by (ring_in (inputs_view a.inputs.items)) r) (ring_out_stays (outputs_view a.outputs.items) (outputs_view b.outputs.items) h.outputs)
+
+pub any_turned_ends : (t u : AnyTasklet) → AnyTurned t u → ends_of u ≡ ends_of t
+any_turned_ends (any.Stamp t) (any.Stamp u) h = turned_ends stamps.same t u h
+any_turned_ends (any.Map t) (any.Map u) h = turned_ends maps.same t u h
+any_turned_ends (any.Filter t) (any.Filter u) h = turned_ends filters.same t u h
+any_turned_ends (any.Flat t) (any.Flat u) h = turned_ends flats.same t u h
+any_turned_ends (any.Join t) (any.Join u) h = turned_ends joins.same t u h
+any_turned_ends (any.Frame t) (any.Frame u) h = turned_ends frames.same t u h
+any_turned_ends (any.Combine t) (any.Combine u) h = turned_ends combines.same t u h
+any_turned_ends t u h = absurd h
+
+lawful_next : {P : Type 0} (stands : P → List Entry → List Item → Type 0) (amid : P → List Entry → Entry → List Item → Type 0) (takes : P → Port → ℕ → Type 0) (a b : Tasklet P) → IsLawful stands amid takes a → Goes stands amid takes a b → IsLawful stands amid takes b
+lawful_next stands amid takes a b l f =
+    let r = f.goes l.came l.gave l.keeps in
+    record { came = l.came ++ r.0; gave = l.gave ++ r.1; keeps = r.2 }
+
+pub any_lawful_next : (t u : AnyTasklet) → AnyIsLawful t → AnyGoes t u → AnyIsLawful u
+any_lawful_next (any.Stamp t) (any.Stamp u) l f = lawful_next stamps.stands stamps.amid stamps.takes t u l f
+any_lawful_next (any.Map t) (any.Map u) l f = lawful_next maps.stands maps.amid maps.takes t u l f
+any_lawful_next (any.Filter t) (any.Filter u) l f = lawful_next filters.stands filters.amid filters.takes t u l f
+any_lawful_next (any.Flat t) (any.Flat u) l f = lawful_next flats.stands flats.amid flats.takes t u l f
+any_lawful_next (any.Join t) (any.Join u) l f = lawful_next joins.stands joins.amid joins.takes t u l f
+any_lawful_next (any.Frame t) (any.Frame u) l f = lawful_next frames.stands frames.amid frames.takes t u l f
+any_lawful_next (any.Combine t) (any.Combine u) l f = lawful_next combines.stands combines.amid combines.takes t u l f
+any_lawful_next t u l f = absurd f
+
+-- ---- a meeting
+pub any_lawful_output : (t : AnyTasklet) (n d : ℕ) (was w : Router) → AnyIsLawful t → slice_get (map (λ (o : Output). o.router) (outputs_of t)) n ≡ Some was → router.Refreshed (router.view was) (router.view w) d → AnyIsLawful (any_with_output t n was w)
+any_lawful_output (any.Stamp t) n d was w l at met = record { came = l.came; gave = l.gave; keeps = output_keeps stamps.stands stamps.amid stamps.takes t l.came l.gave n d was w at met l.keeps }
+any_lawful_output (any.Map t) n d was w l at met = record { came = l.came; gave = l.gave; keeps = output_keeps maps.stands maps.amid maps.takes t l.came l.gave n d was w at met l.keeps }
+any_lawful_output (any.Filter t) n d was w l at met = record { came = l.came; gave = l.gave; keeps = output_keeps filters.stands filters.amid filters.takes t l.came l.gave n d was w at met l.keeps }
+any_lawful_output (any.Flat t) n d was w l at met = record { came = l.came; gave = l.gave; keeps = output_keeps flats.stands flats.amid flats.takes t l.came l.gave n d was w at met l.keeps }
+any_lawful_output (any.Join t) n d was w l at met = record { came = l.came; gave = l.gave; keeps = output_keeps joins.stands joins.amid joins.takes t l.came l.gave n d was w at met l.keeps }
+any_lawful_output (any.Frame t) n d was w l at met = record { came = l.came; gave = l.gave; keeps = output_keeps frames.stands frames.amid frames.takes t l.came l.gave n d was w at met l.keeps }
+any_lawful_output (any.Combine t) n d was w l at met = record { came = l.came; gave = l.gave; keeps = output_keeps combines.stands combines.amid combines.takes t l.came l.gave n d was w at met l.keeps }
+
+pub any_lawful_input : (t : AnyTasklet) (n q : ℕ) (was w : Conveyor) → AnyIsLawful t → slice_get (map (λ (i : Input). i.conveyor) (inputs_of t)) n ≡ Some was → conveyor.Refreshed (conveyor.view was) (conveyor.view w) q → AnyIsLawful (any_with_input t n was w)
+any_lawful_input (any.Stamp t) n q was w l at met = record { came = l.came; gave = l.gave; keeps = input_keeps stamps.stands stamps.amid stamps.takes t l.came l.gave n q was w at met l.keeps }
+any_lawful_input (any.Map t) n q was w l at met = record { came = l.came; gave = l.gave; keeps = input_keeps maps.stands maps.amid maps.takes t l.came l.gave n q was w at met l.keeps }
+any_lawful_input (any.Filter t) n q was w l at met = record { came = l.came; gave = l.gave; keeps = input_keeps filters.stands filters.amid filters.takes t l.came l.gave n q was w at met l.keeps }
+any_lawful_input (any.Flat t) n q was w l at met = record { came = l.came; gave = l.gave; keeps = input_keeps flats.stands flats.amid flats.takes t l.came l.gave n q was w at met l.keeps }
+any_lawful_input (any.Join t) n q was w l at met = record { came = l.came; gave = l.gave; keeps = input_keeps joins.stands joins.amid joins.takes t l.came l.gave n q was w at met l.keeps }
+any_lawful_input (any.Frame t) n q was w l at met = record { came = l.came; gave = l.gave; keeps = input_keeps frames.stands frames.amid frames.takes t l.came l.gave n q was w at met l.keeps }
+any_lawful_input (any.Combine t) n q was w l at met = record { came = l.came; gave = l.gave; keeps = input_keeps combines.stands combines.amid combines.takes t l.came l.gave n q was w at met l.keeps }
+
+some_is : {X : Type 0} (x y : X) → Some x ≡ Some y → x ≡ y
+some_is x y e = cc
+
+-- the first output, and its first ring
+pub out_first : (os : List Output) (r : Router) (q : Ring) → slice_get (map (λ (o : Output). o.router) os) 0 ≡ Some r → ring_out (outputs_view os) ≡ Some q → slice_get (router.rings (router.view r)) 0 ≡ Some q
+out_first [] r q at ring = absurd (cc)
+out_first (o ∷ os) r q at ring = subst (λ (w : Router). slice_get (router.rings (router.view w)) 0 ≡ Some q) (some_is o.router r at) ring
+
+pub in_first : (is : List Input) (c : Conveyor) (q : Ring) → slice_get (map (λ (i : Input). i.conveyor) is) 0 ≡ Some c → ring_in (inputs_view is) ≡ Some q → slice_get (conveyor.view c).rings 0 ≡ Some q
+in_first [] c q at ring = absurd (cc)
+in_first (i ∷ is) c q at ring = subst (λ (w : Conveyor). slice_get (conveyor.view w).rings 0 ≡ Some q) (some_is i.conveyor c at) ring
+
+pub out_some : (os : List Output) (q : Ring) → ring_out (outputs_view os) ≡ Some q → 0 < length os
+out_some [] q ring = absurd (cc)
+out_some (o ∷ os) q ring = omega arith
+
+pub in_some : (is : List Input) (q : Ring) → ring_in (inputs_view is) ≡ Some q → 0 < length is
+in_some [] q ring = absurd (cc)
+in_some (i ∷ is) q ring = omega arith
+
+out_set : (os : List Output) (d w : Router) (h : Bool) → router.rings (router.view w) ≡ router.rings (router.view d) → slice_get (map (λ (o : Output). o.router) os) 0 ≡ Some d → ring_out (outputs_view (set os 0 (record { router = w; had = h }))) ≡ ring_out (outputs_view os)
+out_set [] d w h same at = refl
+out_set (o ∷ os) d w h same at = ap (λ (rs : List Ring). slice_get rs 0) same ∙ ap (λ (r : Router). slice_get (router.rings (router.view r)) 0) (sym (some_is o.router d at))
+
+in_set : (is : List Input) (d w : Conveyor) (p : Port) → (conveyor.view w).rings ≡ (conveyor.view d).rings → slice_get (map (λ (i : Input). i.conveyor) is) 0 ≡ Some d → ring_in (inputs_view (set is 0 (record { port = p; conveyor = w }))) ≡ ring_in (inputs_view is)
+in_set [] d w p same at = refl
+in_set (i ∷ is) d w p same at = ap (λ (rs : List Ring). slice_get rs 0) same ∙ ap (λ (c : Conveyor). slice_get (conveyor.view c).rings 0) (sym (some_is i.conveyor d at))
+
+pub any_output_ends : (t : AnyTasklet) (d : ℕ) (was w : Router) → slice_get (map (λ (o : Output). o.router) (outputs_of t)) 0 ≡ Some was → router.Refreshed (router.view was) (router.view w) d → ends_of (any_with_output t 0 was w) ≡ ends_of t
+any_output_ends (any.Stamp t) d was w at met = ap (λ (r : Option Ring). ends_by (ring_in (inputs_view t.inputs.items)) r) (out_set t.outputs.items was w (get_or t.outputs.items 0 (record { router = was; had = false })).had met.same.rings_kept at)
+any_output_ends (any.Map t) d was w at met = ap (λ (r : Option Ring). ends_by (ring_in (inputs_view t.inputs.items)) r) (out_set t.outputs.items was w (get_or t.outputs.items 0 (record { router = was; had = false })).had met.same.rings_kept at)
+any_output_ends (any.Filter t) d was w at met = ap (λ (r : Option Ring). ends_by (ring_in (inputs_view t.inputs.items)) r) (out_set t.outputs.items was w (get_or t.outputs.items 0 (record { router = was; had = false })).had met.same.rings_kept at)
+any_output_ends (any.Flat t) d was w at met = ap (λ (r : Option Ring). ends_by (ring_in (inputs_view t.inputs.items)) r) (out_set t.outputs.items was w (get_or t.outputs.items 0 (record { router = was; had = false })).had met.same.rings_kept at)
+any_output_ends (any.Join t) d was w at met = ap (λ (r : Option Ring). ends_by (ring_in (inputs_view t.inputs.items)) r) (out_set t.outputs.items was w (get_or t.outputs.items 0 (record { router = was; had = false })).had met.same.rings_kept at)
+any_output_ends (any.Frame t) d was w at met = ap (λ (r : Option Ring). ends_by (ring_in (inputs_view t.inputs.items)) r) (out_set t.outputs.items was w (get_or t.outputs.items 0 (record { router = was; had = false })).had met.same.rings_kept at)
+any_output_ends (any.Combine t) d was w at met = ap (λ (r : Option Ring). ends_by (ring_in (inputs_view t.inputs.items)) r) (out_set t.outputs.items was w (get_or t.outputs.items 0 (record { router = was; had = false })).had met.same.rings_kept at)
+
+pub any_input_ends : (t : AnyTasklet) (q : ℕ) (was w : Conveyor) → slice_get (map (λ (i : Input). i.conveyor) (inputs_of t)) 0 ≡ Some was → conveyor.Refreshed (conveyor.view was) (conveyor.view w) q → ends_of (any_with_input t 0 was w) ≡ ends_of t
+any_input_ends (any.Stamp t) q was w at met = ap (λ (r : Option Ring). ends_by r (ring_out (outputs_view t.outputs.items))) (in_set t.inputs.items was w (get_or t.inputs.items 0 (record { port = Stream; conveyor = was })).port met.rings at)
+any_input_ends (any.Map t) q was w at met = ap (λ (r : Option Ring). ends_by r (ring_out (outputs_view t.outputs.items))) (in_set t.inputs.items was w (get_or t.inputs.items 0 (record { port = Stream; conveyor = was })).port met.rings at)
+any_input_ends (any.Filter t) q was w at met = ap (λ (r : Option Ring). ends_by r (ring_out (outputs_view t.outputs.items))) (in_set t.inputs.items was w (get_or t.inputs.items 0 (record { port = Stream; conveyor = was })).port met.rings at)
+any_input_ends (any.Flat t) q was w at met = ap (λ (r : Option Ring). ends_by r (ring_out (outputs_view t.outputs.items))) (in_set t.inputs.items was w (get_or t.inputs.items 0 (record { port = Stream; conveyor = was })).port met.rings at)
+any_input_ends (any.Join t) q was w at met = ap (λ (r : Option Ring). ends_by r (ring_out (outputs_view t.outputs.items))) (in_set t.inputs.items was w (get_or t.inputs.items 0 (record { port = Stream; conveyor = was })).port met.rings at)
+any_input_ends (any.Frame t) q was w at met = ap (λ (r : Option Ring). ends_by r (ring_out (outputs_view t.outputs.items))) (in_set t.inputs.items was w (get_or t.inputs.items 0 (record { port = Stream; conveyor = was })).port met.rings at)
+any_input_ends (any.Combine t) q was w at met = ap (λ (r : Option Ring). ends_by r (ring_out (outputs_view t.outputs.items))) (in_set t.inputs.items was w (get_or t.inputs.items 0 (record { port = Stream; conveyor = was })).port met.rings at)
+
+-- ---- the list
+pub each_get : (xs : List AnyTasklet) (i : ℕ) (x : AnyTasklet) → i < length xs → x ≡ get_or xs i x → Each AnyIsLawful xs → AnyIsLawful x
+each_get [] i x lt at h = absurd (omega (arith, lt))
+each_get (y ∷ xs) zero x lt at h = subst AnyIsLawful (sym at) h.0
+each_get (y ∷ xs) (suc i) x lt at h = each_get xs i x (omega (arith, lt)) at h.1
+
+pub each_put : (xs : List AnyTasklet) (i : ℕ) (y : AnyTasklet) → Each AnyIsLawful xs → AnyIsLawful y → Each AnyIsLawful (set xs i y)
+each_put [] i y h k = tt
+each_put (x ∷ xs) zero y h k = (k, h.1)
+each_put (x ∷ xs) (suc i) y h k = (h.0, each_put xs i y h.1 k)
+
+pub ends_put : (xs : List AnyTasklet) (i : ℕ) (x y : AnyTasklet) → x ≡ get_or xs i x → ends_of y ≡ ends_of x → all_ends (set xs i y) ≡ all_ends xs
+ends_put [] i x y at same = refl
+ends_put (z ∷ xs) zero x y at same = ap (λ (e : Ends). e ∷ all_ends xs) (same ∙ ap ends_of at)
+ends_put (z ∷ xs) (suc i) x y at same = ap (λ (es : List Ends). ends_of z ∷ es) (ends_put xs i x y at same)
+
+ends_at : (xs : List AnyTasklet) (i : ℕ) (x : AnyTasklet) → x ≡ get_or xs i x → get_or (all_ends xs) i (ends_of x) ≡ ends_of x
+ends_at [] i x at = refl
+ends_at (z ∷ xs) zero x at = ap ends_of (sym at)
+ends_at (z ∷ xs) (suc i) x at = ends_at xs i x at
+
+-- one and the next of a chain
+pub joined_at : (from to : Ring) (es : List Ends) (i : ℕ) (d e : Ends) → suc i < length es → AreLinked from es to → AreJoined (get_or es i d) (get_or es (suc i) e)
+joined_at from to [] i d e lt h = absurd (omega (arith, lt))
+joined_at from to (a ∷ []) i d e lt h = absurd (omega (arith, lt))
+joined_at from to (a ∷ (b ∷ es)) zero d e lt h = (h.0, h.2, h.3.1)
+joined_at from to (a ∷ (b ∷ es)) (suc i) d e lt h = joined_at h.0 to (b ∷ es) i d e (omega (arith, lt)) h.3
+
+length_put : (xs : List AnyTasklet) (i : ℕ) (y : AnyTasklet) → length (set xs i y) ≡ length xs
+length_put [] i y = refl
+length_put (x ∷ xs) zero y = refl
+length_put (x ∷ xs) (suc i) y = ap suc (length_put xs i y)
+
+-- one tasklet of a chain changed to another with the same ends
+pub chain_put : (from to : Ring) (xs : List AnyTasklet) (i : ℕ) (x y : AnyTasklet) → i < length xs → x ≡ get_or xs i x → IsChain from xs to → (AnyIsLawful x → AnyIsLawful y) → ends_of y ≡ ends_of x → IsChain from (set xs i y) to
+chain_put from to xs i x y lt at k f same = record {
+  three = length_put xs i y ∙ k.three;
+  lawful = each_put xs i y k.lawful (f (each_get xs i x lt at k.lawful));
+  linked = subst (λ (es : List Ends). AreLinked from es to) (sym (ends_put xs i x y at same)) k.linked;
+}
+
+-- what the first takes from, and what the last gives into
+pub first_takes : (from to : Ring) (xs : List AnyTasklet) (x : AnyTasklet) → x ≡ get_or xs 0 x → IsChain from xs to → (ends_of x).takes ≡ Some from
+first_takes from to [] x at k = absurd (omega (arith, k.three))
+first_takes from to (a ∷ xs) x at k = ap (λ (t : AnyTasklet). (ends_of t).takes) at ∙ k.linked.1
+
+pub last_gives : (from to : Ring) (xs : List AnyTasklet) (x : AnyTasklet) → x ≡ get_or xs 2 x → IsChain from xs to → (ends_of x).gives ≡ Some to
+last_gives from to [] x at k = absurd (omega (arith, k.three))
+last_gives from to (a ∷ []) x at k = absurd (omega (arith, k.three))
+last_gives from to (a ∷ (b ∷ [])) x at k = absurd (omega (arith, k.three))
+last_gives from to (a ∷ (b ∷ (c ∷ []))) x at k = ap (λ (t : AnyTasklet). (ends_of t).gives) at ∙ (k.linked.3.3.2 ∙ ap Some k.linked.3.3.3)
+last_gives from to (a ∷ (b ∷ (c ∷ (d ∷ xs)))) x at k = absurd (omega (arith, k.three))
+
+-- the ends of a router, as a meeting wants them
+pub rings_some : (ds : List DestView) (q : Ring) → slice_get (map (λ t. t.ring) (map (λ (d : DestView). d.tx) ds)) 0 ≡ Some q → 0 < length ds
+rings_some [] q at = absurd (cc)
+rings_some (d ∷ ds) q at = omega arith
+
+pub ring_first : (ts : List (TxView Item)) (t : TxView Item) (q : Ring) → slice_get ts 0 ≡ Some t → slice_get (map (λ (u : TxView Item). u.ring) ts) 0 ≡ Some q → q ≡ t.ring
+ring_first [] t q at ring = absurd (cc)
+ring_first (u ∷ ts) t q at ring =
+    let same : u ≡ t = cc in
+    let is : u.ring ≡ q = cc in
+    sym is ∙ ap (λ (v : TxView Item). v.ring) same

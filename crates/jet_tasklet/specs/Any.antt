@@ -1,0 +1,57 @@
+-- What a turn of a tasklet of any kind says: the words of its own kind, by cases.
+use Rattle.std.specs.Prelude.{◌≡◌, ◌≤◌, ◌+◌, ℕ, false, List}
+use Rattle.jet_items.specs.declared.item.Item.{Item}
+use Rattle.jet_conveyor.specs.declared.conveyor.Conveyor.{Conveyor}
+use Rattle.jet_router.specs.declared.router.Router.{Router}
+use Rattle.jet_tasklet.specs.declared.arrival.Arrival.{Arrival}
+use Rattle.jet_tasklet.specs.declared.any.AnyTasklet.{AnyTasklet}
+use Rattle.jet_tasklet.specs.Inputs.{inputs_view, received_count}
+use Rattle.jet_tasklet.specs.Kinds.{OfKind, OfKinds, changed, inputs_of}
+use Rattle.jet_tasklet.specs.Keeps.{Keeps, IsLawful, Goes}
+use Rattle.jet_tasklet.specs.Lending.{with_input, with_output}
+use Rattle.jet_tasklet.specs.Turned.{Turned}
+use Rattle.jet_tasklet.specs.Turning.{HasEnded, IsBlocked, IsStarved, Moves, IsStill}
+
+-- it took these items and gave these
+abbrev pub AnyKeeps : AnyTasklet → List Arrival → List Item → Type 0
+AnyKeeps t came gave = OfKind (λ P k u. Keeps k.stands k.amid k.takes u came gave) t
+
+abbrev pub AnyIsLawful : AnyTasklet → Type 0
+AnyIsLawful t = OfKind (λ P k u. IsLawful k.stands k.amid k.takes u) t
+
+abbrev pub AnyGoes : AnyTasklet → AnyTasklet → Type 0
+AnyGoes t u = OfKinds (λ P k a b. Goes k.stands k.amid k.takes a b) t u
+
+abbrev pub AnyTurned : AnyTasklet → AnyTasklet → Type 0
+AnyTurned t u = OfKinds (λ P k a b. Turned k.same a b) t u
+
+-- it received at most 64 items
+abbrev pub AnyFew : AnyTasklet → AnyTasklet → Type 0
+AnyFew t u = received_count (inputs_view (inputs_of u)) ≤ received_count (inputs_view (inputs_of t)) + 64
+
+-- its processor may want memory
+abbrev pub AnyMayWant : AnyTasklet → Type 0
+AnyMayWant t = OfKind (λ P k u. k.frugal ≡ false) t
+
+abbrev pub AnyHasEnded : AnyTasklet → Type 0
+AnyHasEnded t = OfKind (λ P k u. HasEnded u) t
+
+abbrev pub AnyIsBlocked : AnyTasklet → Type 0
+AnyIsBlocked t = OfKind (λ P k u. IsBlocked u) t
+
+abbrev pub AnyIsStarved : AnyTasklet → Type 0
+AnyIsStarved t = OfKind (λ P k u. IsStarved u) t
+
+abbrev pub AnyMoves : AnyTasklet → AnyTasklet → Type 0
+AnyMoves t u = OfKinds (λ P k a b. Moves a b) t u
+
+abbrev pub AnyIsStill : AnyTasklet → AnyTasklet → Type 0
+AnyIsStill t u = OfKinds (λ P k a b. IsStill a b) t u
+
+-- t with the conveyor of the input n changed to w; `was` is the conveyor as it was
+abbrev pub any_with_input : AnyTasklet → ℕ → Conveyor → Conveyor → AnyTasklet
+any_with_input t n was w = changed (λ P u. with_input u n was w) t
+
+-- the same of the router of the output n
+abbrev pub any_with_output : AnyTasklet → ℕ → Router → Router → AnyTasklet
+any_with_output t n was w = changed (λ P u. with_output u n was w) t

@@ -1,0 +1,104 @@
+-- What a contract sees of a tasklet of any kind.
+use Rattle.std.specs.Prelude.{ℕ, Bool, List}
+use Rattle.jet_items.specs.declared.item.Item.{Item}
+use Rattle.jet_boxes.specs.declared.port.Port.{Port}
+use Rattle.jet_boxes.specs.Entry.{Entry}
+use Rattle.jet_stages.specs.declared.stamp.Stamp.{Stamp}
+use Rattle.jet_stages.specs.declared.map.MapP.{MapP}
+use Rattle.jet_stages.specs.declared.filter.FilterP.{FilterP}
+use Rattle.jet_stages.specs.declared.flat.FlatP.{FlatP}
+use Rattle.jet_join.specs.declared.join.JoinP.{JoinP}
+use Rattle.jet_window.specs.declared.frame.FrameP.{FrameP}
+use Rattle.jet_window.specs.declared.combine.CombineP.{CombineP}
+use Rattle.jet_stages.specs.contracts.stamp.StampProcessor.TheImpl as stamp
+use Rattle.jet_stages.specs.contracts.map.MapPProcessor.TheImpl as map
+use Rattle.jet_stages.specs.contracts.filter.FilterPProcessor.TheImpl as filter
+use Rattle.jet_stages.specs.contracts.flat.FlatPProcessor.TheImpl as flat
+use Rattle.jet_join.specs.contracts.join.JoinPProcessor.TheImpl as join
+use Rattle.jet_window.specs.contracts.frame.FramePProcessor.TheImpl as frame
+use Rattle.jet_window.specs.contracts.combine.CombinePProcessor.TheImpl as combine
+use Rattle.jet_tasklet.specs.declared.tasklet.Tasklet.{Tasklet}
+use Rattle.jet_tasklet.specs.declared.any.AnyTasklet.{AnyTasklet}
+use Rattle.jet_tasklet.specs.declared.any.AnyTasklet.TheVariants as any
+use Rattle.jet_tasklet.specs.declared.input.Input.{Input}
+use Rattle.jet_tasklet.specs.declared.output.Output.{Output}
+
+-- what a kind of processor says of itself: what it stands for between two calls and in the middle of one, from which queues it takes, when two of it have the same settings, and whether it never wants memory
+pub record Kind (P : Type 0) : Type 1 where
+  pub stands : P → List Entry → List Item → Type 0
+  pub amid : P → List Entry → Entry → List Item → Type 0
+  pub takes : P → Port → ℕ → Type 0
+  pub same : P → P → Type 0
+  pub frugal : Bool
+
+-- the seven kinds
+abbrev pub stamps : Kind Stamp
+stamps = record { stands = (stamp.ghosts).stands; amid = (stamp.ghosts).amid; takes = (stamp.ghosts).takes; same = (stamp.ghosts).same; frugal = (stamp.ghosts).frugal }
+
+abbrev pub maps : Kind MapP
+maps = record { stands = (map.ghosts).stands; amid = (map.ghosts).amid; takes = (map.ghosts).takes; same = (map.ghosts).same; frugal = (map.ghosts).frugal }
+
+abbrev pub filters : Kind FilterP
+filters = record { stands = (filter.ghosts).stands; amid = (filter.ghosts).amid; takes = (filter.ghosts).takes; same = (filter.ghosts).same; frugal = (filter.ghosts).frugal }
+
+abbrev pub flats : Kind FlatP
+flats = record { stands = (flat.ghosts).stands; amid = (flat.ghosts).amid; takes = (flat.ghosts).takes; same = (flat.ghosts).same; frugal = (flat.ghosts).frugal }
+
+abbrev pub joins : Kind JoinP
+joins = record { stands = (join.ghosts).stands; amid = (join.ghosts).amid; takes = (join.ghosts).takes; same = (join.ghosts).same; frugal = (join.ghosts).frugal }
+
+abbrev pub frames : Kind FrameP
+frames = record { stands = (frame.ghosts).stands; amid = (frame.ghosts).amid; takes = (frame.ghosts).takes; same = (frame.ghosts).same; frugal = (frame.ghosts).frugal }
+
+abbrev pub combines : Kind CombineP
+combines = record { stands = (combine.ghosts).stands; amid = (combine.ghosts).amid; takes = (combine.ghosts).takes; same = (combine.ghosts).same; frugal = (combine.ghosts).frugal }
+
+-- what is said of tasklets of every kind, said of one
+abbrev pub OfKind : ((P : Type 0) → Kind P → Tasklet P → Type 0) → AnyTasklet → Type 0
+OfKind C (any.Stamp t) = C Stamp stamps t
+OfKind C (any.Map t) = C MapP maps t
+OfKind C (any.Filter t) = C FilterP filters t
+OfKind C (any.Flat t) = C FlatP flats t
+OfKind C (any.Join t) = C JoinP joins t
+OfKind C (any.Frame t) = C FrameP frames t
+OfKind C (any.Combine t) = C CombineP combines t
+
+-- what is said of two tasklets of the same kind, said of two that are so
+abbrev pub OfKinds : ((P : Type 0) → Kind P → Tasklet P → Tasklet P → Type 0) → AnyTasklet → AnyTasklet → Type 0
+OfKinds C (any.Stamp t) (any.Stamp u) = C Stamp stamps t u
+OfKinds C (any.Map t) (any.Map u) = C MapP maps t u
+OfKinds C (any.Filter t) (any.Filter u) = C FilterP filters t u
+OfKinds C (any.Flat t) (any.Flat u) = C FlatP flats t u
+OfKinds C (any.Join t) (any.Join u) = C JoinP joins t u
+OfKinds C (any.Frame t) (any.Frame u) = C FrameP frames t u
+OfKinds C (any.Combine t) (any.Combine u) = C CombineP combines t u
+OfKinds C t u = ⊥
+
+-- a change that tasklets of every kind can undergo, of one
+abbrev pub changed : ((P : Type 0) → Tasklet P → Tasklet P) → AnyTasklet → AnyTasklet
+changed f (any.Stamp t) = any.Stamp (f Stamp t)
+changed f (any.Map t) = any.Map (f MapP t)
+changed f (any.Filter t) = any.Filter (f FilterP t)
+changed f (any.Flat t) = any.Flat (f FlatP t)
+changed f (any.Join t) = any.Join (f JoinP t)
+changed f (any.Frame t) = any.Frame (f FrameP t)
+changed f (any.Combine t) = any.Combine (f CombineP t)
+
+-- the inputs of a tasklet of any kind, and its outputs
+abbrev pub inputs_of : AnyTasklet → List Input
+inputs_of (any.Stamp t) = t.inputs.items
+inputs_of (any.Map t) = t.inputs.items
+inputs_of (any.Filter t) = t.inputs.items
+inputs_of (any.Flat t) = t.inputs.items
+inputs_of (any.Join t) = t.inputs.items
+inputs_of (any.Frame t) = t.inputs.items
+inputs_of (any.Combine t) = t.inputs.items
+
+abbrev pub outputs_of : AnyTasklet → List Output
+outputs_of (any.Stamp t) = t.outputs.items
+outputs_of (any.Map t) = t.outputs.items
+outputs_of (any.Filter t) = t.outputs.items
+outputs_of (any.Flat t) = t.outputs.items
+outputs_of (any.Join t) = t.outputs.items
+outputs_of (any.Frame t) = t.outputs.items
+outputs_of (any.Combine t) = t.outputs.items
