@@ -1,8 +1,8 @@
--- The answers of the top call, from the end of its run.
+-- What Done to `window` says of late lines, and what a bad line does.
 use Rattle.jet_laws.proofs.InTime.{none_is_behind}
 use Rattle.jet_laws.specs.InTime.{IsInTime}
-use Rattle.std.proofs.Common.{◌≡◌, ℕ, List, [], ◌∷◌, ◌++◌, map, filter, Bool, true, false, cond, Option, Some, None, Result, Ok, Err, refl, ap, sym, ◌∙◌, subst, append-nil, All, OnOk, inl, inr, pos, ◌≤ℤ◌}
-use Rattle.std.specs.Prelude.{IfErr, IsSomeAnd, Any, MatchResult, ◌==◌}
+use Rattle.std.proofs.Common.{◌≡◌, ℕ, List, [], ◌∷◌, ◌++◌, map, filter, Bool, true, false, cond, Option, Some, None, refl, ap, sym, ◌∙◌, subst, append-nil, All, pos, ◌≤ℤ◌}
+use Rattle.std.specs.Prelude.{IsSomeAnd, Any, ◌==◌}
 use Rattle.std.specs.List.Sorted.{IsPermutation}
 use Rattle.std.specs.List.{AllZip}
 use Rattle.std.proofs.lemmas.List.Elements.{All-head, All-tail, All-cons, All-nil}
@@ -12,22 +12,15 @@ use Rattle.jet_items.specs.Values.{EventValue, LateValue}
 use Rattle.jet_lines.specs.Files.{first_bad_line, most_lines}
 use Rattle.jet_lines.specs.Readings.{event_at}
 use Rattle.jet_lines.specs.declared.fault.LineFault.{LineFault}
-use Rattle.jet_file.specs.Causes.{Rose}
 use Rattle.jet_file.specs.Headline.{late_at}
 use Rattle.jet_file.specs.Outside.{Told, Goes}
 use Rattle.jet_file.specs.Text.{late_text}
 use Rattle.jet_file.specs.declared.outside.Out.TheVariants.{Notes}
-use Rattle.jet_file.proofs.GoesLemmas.{goes_weaker}
-use Rattle.jet_cli.specs.Answers.{HasGoodFile, OrNoMemory}
+use Rattle.jet_cli.specs.Answers.{HasGoodFile}
 use Rattle.jet_cli.specs.Base.{base_window, base_events, base_behind}
 use Rattle.jet_cli.specs.Done.{IsDone, IsQuiet, IsQuietInTime}
-use Rattle.jet_cli.specs.Ended.{status_of}
-use Rattle.jet_cli.specs.LineStops.{IsFirstBadLine, RunStops}
-use Rattle.jet_cli.specs.Stopping.{CauseOfStop}
+use Rattle.jet_cli.specs.LineStops.{IsFirstBadLine}
 use Rattle.jet_cli.specs.Words.{WindowCommand}
-use Rattle.jet_cli.specs.declared.status.Status.TheVariants as status
-use Rattle.jet_cli.specs.declared.status.Stop.{Stop}
-use Rattle.jet_cli.specs.declared.status.Stop.TheVariants.{BadLine, Outside, NoMemory}
 use Rattle.jet_cli.proofs.DoneLemmas.{one_of}
 
 all_front : {X : Type 0} (P : X → Type 0) (xs ys : List X) → All P (xs ++ ys) → All P xs
@@ -57,7 +50,7 @@ late_of_one behind inflow late (k ∷ kept) two fresh once =
     All-permutation (λ (e : EventValue). behind e ≡ false) inflow.events (late_at inflow.window.vertex late ++ k.events) once.0.1 fresh in
     subst (λ (v : ℕ). All (λ (e : EventValue). behind e ≡ false) (late_at v late)) two (all_front (λ (e : EventValue). behind e ≡ false) (late_at inflow.window.vertex late) k.events all)
 
-quiet_is : (c : WindowCommand) (before now : ℕ → Bool) (old new : Told) → IsDone c before now old new → IsQuiet c old new
+pub quiet_is : (c : WindowCommand) (before now : ℕ → Bool) (old new : Told) → IsDone c before now old new → IsQuiet c old new
 quiet_is c before now old new d =
     subst (λ (o : Option (List ℕ)). IsSomeAnd o (λ (content : List ℕ). All (λ (e : EventValue). base_behind c content e ≡ false) (base_events content) → new.written Notes ≡ old.written Notes)) (sym d.content_is)
     (λ none.
@@ -67,53 +60,24 @@ quiet_is c before now old new d =
     let late : d.headline.late ≡ [] = none_late (base_behind c d.content) inflow d.headline.late refl counted.late_behind counted.late_somewhere fresh in
     d.notes_written ∙ ap (λ (l : List ℕ). old.written Notes ++ l) (d.headline.notes_are ∙ ap (late_text (base_window c ∷ [])) late) ∙ append-nil (old.written Notes))
 
-pub quiet_of : (c : WindowCommand) (before now : ℕ → Bool) (old new : Option Told) (r : Result (Unit {0}) Stop) → OnOk r (Goes (IsDone c before now) old new) → status_of r ≡ status.Done → Goes (IsQuiet c) old new
-quiet_of c before now old new (Ok d) done is = goes_weaker (IsDone c before now) (IsQuiet c) (quiet_is c before now) old new done
-quiet_of c before now old new (Err (BadLine p l w)) done is = absurd (cc is)
-quiet_of c before now old new (Err (Outside call file)) done is = absurd (cc is)
-quiet_of c before now old new (Err NoMemory) done is = absurd (cc is)
-
 some_weaker : {X : Type 0} (o : Option X) (P Q : X → Type 0) → ((x : X) → P x → Q x) → IsSomeAnd o P → IsSomeAnd o Q
 some_weaker None P Q f h = h
 some_weaker (Some x) P Q f h = f x h
 
 -- events in time leave no late line
-in_time_is : (c : WindowCommand) (old new : Told) → pos 1 ≤ℤ pos c.slide → IsQuiet c old new → IsQuietInTime c old new
+pub in_time_is : (c : WindowCommand) (old new : Told) → pos 1 ≤ℤ pos c.slide → IsQuiet c old new → IsQuietInTime c old new
 in_time_is c old new step =
     some_weaker (old.content c.file) (λ content. All (λ e. base_behind c content e ≡ false) (base_events content) → new.written Notes ≡ old.written Notes)
     (λ content. IsInTime (pos c.lag) (base_events content) → new.written Notes ≡ old.written Notes)
     (λ content quiet in_time. quiet (none_is_behind (pos c.lag) (pos c.slide) (base_events content) step in_time))
 
-pub in_time_of : (c : WindowCommand) (before now : ℕ → Bool) (old new : Option Told) (r : Result (Unit {0}) Stop) → pos 1 ≤ℤ pos c.slide → OnOk r (Goes (IsDone c before now) old new)
-    → status_of r ≡ status.Done → Goes (IsQuietInTime c) old new
-in_time_of c before now old new r step done is = goes_weaker (IsQuiet c) (IsQuietInTime c) (λ a b. in_time_is c a b step) old new (quiet_of c before now old new r done is)
-
-same_line : (p q l m : ℕ) (w v : LineFault) → status.BadLine p l w ≡ status.BadLine q m v → (p ≡ q) × (l ≡ m) × (w ≡ v)
-same_line p q l m w v h = (cc h, cc h, cc h)
-
-pub bad_line_of : (c : WindowCommand) (old new : Option Told) (r : Result (Unit {0}) Stop) (part line : ℕ) (why : LineFault) → IfErr r (λ stop. Goes (RunStops c stop) old new) → status_of r ≡ status.BadLine part line why
-    → Goes (λ told _. IsFirstBadLine c part line why told) old new
-bad_line_of c old new (Ok d) part line why stops is = absurd (cc is)
-bad_line_of c old new (Err (BadLine p l w)) part line why stops is =
-    let same = same_line p part l line w why is in
-    goes_weaker (RunStops c (BadLine p l w)) (λ told _. IsFirstBadLine c part line why told)
-    (λ a b h. subst (λ (k : ℕ). IsFirstBadLine c k line why a) same.0 (subst (λ (k : ℕ). IsFirstBadLine c p k why a) same.1 (subst (λ (k : LineFault). IsFirstBadLine c p l k a) same.2 h.1))) old new stops
-bad_line_of c old new (Err (Outside call file)) part line why stops is = absurd (cc is)
-bad_line_of c old new (Err NoMemory) part line why stops is = absurd (cc is)
-
-none_bad : (o : Option (List ℕ)) (n : ℕ) (why : LineFault) → IsSomeAnd o (λ content. first_bad_line (event_at 0) most_lines content ≡ None)
+pub none_bad : (o : Option (List ℕ)) (n : ℕ) (why : LineFault) → IsSomeAnd o (λ content. first_bad_line (event_at 0) most_lines content ≡ None)
     → IsSomeAnd o (λ content. first_bad_line (event_at 0) most_lines content ≡ Some (n, why)) → ⊥
 none_bad None n why good bad = good
 none_bad (Some content) n why good bad = cc (sym good ∙ bad)
 
-never_bad : (c : WindowCommand) (old new : Option Told) (p l : ℕ) (w : LineFault) → HasGoodFile c old → Goes (RunStops c (BadLine p l w)) old new → ⊥
+-- in a good file no line is bad
+pub never_bad : (c : WindowCommand) (old new : Option Told) (p l : ℕ) (w : LineFault) → HasGoodFile c old → Goes (λ a b. IsFirstBadLine c p l w a) old new → ⊥
 never_bad c None new p l w good h = good
 never_bad c (Some old) None p l w good h = h
-never_bad c (Some old) (Some new) p l w good h = none_bad (old.content c.file) l w good h.1.1
-
-pub complete_of : (c : WindowCommand) (old new : Option Told) (before now : ℕ) (r : Result (Unit {0}) Stop) → IfErr r (λ stop. Goes (RunStops c stop) old new)
-    → MatchResult r (λ _. now ≡ before) (CauseOfStop before now) → HasGoodFile c old → (Rose before now → ⊥) → OrNoMemory (status_of r) status.Done
-complete_of c old new before now (Ok d) stops cause good never = inl refl
-complete_of c old new before now (Err (BadLine p l w)) stops cause good never = absurd (never_bad c old new p l w good stops)
-complete_of c old new before now (Err (Outside call file)) stops cause good never = absurd (never cause)
-complete_of c old new before now (Err NoMemory) stops cause good never = inr refl
+never_bad c (Some old) (Some new) p l w good h = none_bad (old.content c.file) l w good h.1

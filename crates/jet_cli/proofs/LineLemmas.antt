@@ -10,19 +10,20 @@ use Rattle.jet_policy.specs.MarkerValue.{MarkerValue}
 use Rattle.jet_window.specs.Plain.{PlainValue}
 use Rattle.jet_cli.specs.Counting.{Counts, mark_after}
 use Rattle.jet_cli.specs.Ending.{Ends}
-use Rattle.jet_cli.specs.Feeding.{Appends, Flushes}
+use Rattle.jet_worker.specs.Feeding.{Appends, Flushes}
 use Rattle.jet_cli.specs.Finished.{Finished}
 use Rattle.jet_cli.specs.LineStops.{IsBadLineAt, LineStop}
 use Rattle.jet_cli.specs.Progress.{TookLine, base_rows_text}
-use Rattle.jet_cli.specs.Stopping.{StopTold, IsNoBadLine}
+use Rattle.jet_worker.specs.Stopping.{StopTold, IsNoBadLine}
 use Rattle.jet_cli.specs.Took.{Took, Prints, late_text_of}
 use Rattle.jet_cli.specs.Words.{WindowCommand}
 use Rattle.jet_cli.proofs.TookLemmas.{stays}
 use Rattle.std.proofs.lemmas.List.Elements.{All-nil}
 use Rattle.jet_cli.specs.declared.counter.WindowCounter.{WindowCounter}
-use Rattle.jet_cli.specs.declared.status.Stop.{Stop}
-use Rattle.jet_cli.specs.declared.status.Stop.TheVariants.{BadLine, Outside, NoMemory}
-use Rattle.jet_file.proofs.GoesLemmas.{goes_weaker, goes_same}
+use Rattle.jet_worker.specs.declared.stop.Spot.{Spot}
+use Rattle.jet_worker.specs.declared.stop.Stop.{Stop}
+use Rattle.jet_worker.specs.declared.stop.Stop.TheVariants.{BadLine, Outside, NoMemory}
+use Rattle.jet_cli.proofs.GoesLemmas.{goes_weaker, goes_same}
 
 -- what went on without a fault
 went_on : {A B : Type 0} (r : Result A LineFault) (f : A → Result B LineFault) (y : B) → (r >>= f) ≡ Ok y → (x : A) × (r ≡ Ok x) × (f x ≡ Ok y)
@@ -83,12 +84,12 @@ pub write_stops : (rows notes : List ℕ) (n : ℕ) (line : List ℕ) (now next 
 write_stops rows notes n line now next (Ok done) told never = tt
 write_stops rows notes n line now next (Err (BadLine p l why)) told never = absurd never
 write_stops rows notes n line now next (Err (Outside call spot)) told never =
-    (λ name_of. goes_weaker (Flushes {T = Unit {0}} rows notes (Err (Outside call spot))) (StopTold name_of (Outside call spot)) (λ a b h. h name_of) now next told, tt)
+    (λ name_of. goes_weaker (Flushes {T = Unit {0}} rows notes (Err (Outside call spot))) (StopTold name_of (Outside call spot)) (λ a b h. h.told name_of) now next told, tt)
 write_stops rows notes n line now next (Err NoMemory) told never =
-    (λ name_of. goes_weaker (Flushes {T = Unit {0}} rows notes (Err NoMemory)) (StopTold name_of NoMemory) (λ a b h. h name_of) now next told, tt)
+    (λ name_of. goes_weaker (Flushes {T = Unit {0}} rows notes (Err NoMemory)) (StopTold name_of NoMemory) (λ a b h. h.told name_of) now next told, tt)
 
 -- a stop that touched no outside
-pub stands : (n : ℕ) (line : List ℕ) (now : Option Told) (stop : Stop) → ((name_of : ℕ → Option (List ℕ)) (a : Told) → StopTold name_of stop a a) → IsBadLineAt n line stop → LineStop n line now now stop
+pub stands : (n : ℕ) (line : List ℕ) (now : Option Told) (stop : Stop) → ((name_of : Spot → Option (List ℕ)) (a : Told) → StopTold name_of stop a a) → IsBadLineAt n line stop → LineStop n line now now stop
 stands n line now stop same bad = (λ name_of. goes_same (StopTold name_of stop) (same name_of) now, bad)
 
 same_none : (a : List RowValue) → a ≡ a ++ []
@@ -111,7 +112,7 @@ wrote_nothing c events table n line now w read counts prints no_rows no_notes = 
   prints = prints;
   no_rows = no_rows;
   no_notes = no_notes;
-  told = goes_same (Appends [] []) (λ a. record { note_lengths = []; row_lengths = []; row_sum = refl; content = refl; place = refl; rows_written = sym (append-nil (a.written Rows)); notes_written = sym (append-nil (a.written Notes)); trace = sym (append-nil (a.trace ++ []) ∙ append-nil a.trace) }) now;
+  told = goes_same (Appends [] []) (λ a. record { note_lengths = []; row_lengths = []; row_sum = refl; note_sum = refl; content = refl; place = refl; rows_written = sym (append-nil (a.written Rows)); notes_written = sym (append-nil (a.written Notes)); trace = sym (append-nil (a.trace ++ []) ∙ append-nil a.trace) }) now;
 }
 
 -- what holds where the result is Ok
@@ -135,7 +136,7 @@ wrote_end c events table now next old mid f no_rows no_notes (Ok done) told =
 wrote_end c events table now next old mid f no_rows no_notes (Err stop) told = tt
 
 pub end_stops : (rows notes : List ℕ) (now next : Option Told) (r : Result (Unit {0}) Stop) → Goes (Flushes rows notes r) now next → IfErr r IsNoBadLine
-    → IfErr r (λ stop. (name_of : ℕ → Option (List ℕ)) → IsNoBadLine stop × Goes (StopTold name_of stop) now next)
+    → IfErr r (λ stop. (name_of : Spot → Option (List ℕ)) → IsNoBadLine stop × Goes (StopTold name_of stop) now next)
 end_stops rows notes now next (Ok done) told never = tt
 end_stops rows notes now next (Err stop) told never =
-    λ name_of. (never, goes_weaker (Flushes {T = Unit {0}} rows notes (Err stop)) (StopTold name_of stop) (λ a b h. h name_of) now next told)
+    λ name_of. (never, goes_weaker (Flushes {T = Unit {0}} rows notes (Err stop)) (StopTold name_of stop) (λ a b h. h.told name_of) now next told)

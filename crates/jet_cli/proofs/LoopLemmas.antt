@@ -15,19 +15,21 @@ use Rattle.jet_lines.specs.declared.cut.Cut.TheVariants as cut
 use Rattle.jet_lines.specs.declared.fault.LineFault.{LineFault}
 use Rattle.jet_file.specs.Text.{row_line}
 use Rattle.jet_file.specs.Outside.{Told, Goes, OpensFile, AddsNumber, LacksFile}
-use Rattle.jet_file.proofs.GoesLemmas.{goes_same, goes_then}
+use Rattle.jet_cli.proofs.GoesLemmas.{goes_same, goes_then, goes_weaker}
 use Rattle.jet_cli.specs.Counting.{Counts, late_among, mark_after}
 use Rattle.jet_cli.specs.Done.{IsDone}
 use Rattle.jet_cli.specs.Ending.{Ends}
-use Rattle.jet_cli.specs.Feeding.{PutsPiece, TakesPiece}
+use Rattle.jet_worker.specs.Feeding.{PutsPiece, StopsAt, TakesPiece}
 use Rattle.jet_cli.specs.LineStops.{LineStop, IsBadIn, IsBadLineAt, RunStops, StopsFrom}
 use Rattle.jet_cli.specs.Progress.{HasRun, Progress, TookLine, base_rows_text, base_late_text}
-use Rattle.jet_cli.specs.Stopping.{StopTold, IsForOutside, IsNoBadLine, CauseOfStop, Outcome, OpenOutcome}
+use Rattle.jet_worker.specs.Stopping.{StopTold, IsForOutside, IsNoBadLine, CauseOfStop, Outcome, OpenOutcome}
 use Rattle.jet_cli.specs.Took.{Prints}
 use Rattle.jet_cli.specs.Words.{WindowCommand}
 use Rattle.jet_cli.specs.declared.counter.WindowCounter.{WindowCounter}
-use Rattle.jet_cli.specs.declared.status.Stop.{Stop}
-use Rattle.jet_cli.specs.declared.status.Stop.TheVariants.{BadLine, Outside, NoMemory}
+use Rattle.jet_worker.specs.declared.stop.Spot.{Spot}
+use Rattle.jet_worker.specs.declared.stop.Spot.TheVariants.{Part}
+use Rattle.jet_worker.specs.declared.stop.Stop.{Stop}
+use Rattle.jet_worker.specs.declared.stop.Stop.TheVariants.{BadLine, Outside, NoMemory}
 use Rattle.jet_cli.proofs.DoneLemmas.{done_is}
 use Rattle.jet_cli.proofs.ProgressLemmas.{progress_line, progress_more}
 use Rattle.jet_cli.proofs.RunLemmas.{goes_writes}
@@ -100,7 +102,7 @@ stops_at_line c file old start now next lines lines' w n line stop p next_is sam
     goes_run_stops c file p.bytes lines.ended (base_rows_text c p.table) (base_late_text (late_among c (events_in most_lines 0 p.given))) stop old start now next
     (bad_read c file start now lines w p n lines' stop next_is (subst (λ (l : List ℕ). IsBadLineAt n l stop) same h.1)) opens p.told (all_names file stop now next h.0)
   where
-    all_names : (file : ℕ) (stop : Stop) (now next : Option Told) → ((name_of : ℕ → Option (List ℕ)) → Goes (StopTold name_of stop) now next) → Goes (StopsFrom file stop) now next
+    all_names : (file : ℕ) (stop : Stop) (now next : Option Told) → ((name_of : Spot → Option (List ℕ)) → Goes (StopTold name_of stop) now next) → Goes (StopsFrom file stop) now next
     all_names file stop None next h = tt
     all_names file stop (Some a) None h = h (λ k. None)
     all_names file stop (Some a) (Some b) h = λ name_of is. h name_of
@@ -109,6 +111,10 @@ none_bad : (stop : Stop) → IsNoBadLine stop → (content : List ℕ) → IsBad
 none_bad (BadLine part line why) h content = absurd h
 none_bad (Outside call spot) h content = tt
 none_bad NoMemory h content = tt
+
+-- a read of the file stopped
+pub stops_read : (file : ℕ) (stop : Stop) (now next : Option Told) → Goes (λ a b. StopsAt (Part 0) (a.place file).name stop a b) now next → Goes (StopsFrom file stop) now next
+stops_read file stop = goes_weaker (λ a b. StopsAt (Part 0) (a.place file).name stop a b) (StopsFrom file stop) (λ a b h name_of is. h.told name_of is)
 
 -- the run stops for another cause
 pub stops_else : (c : WindowCommand) (file : ℕ) (old start now next : Option Told) (lines : LinesValue) (w : WindowCounter) (stop : Stop)
@@ -119,12 +125,12 @@ stops_else c file old start now next lines w stop p never told opens =
 
 pub stops_at_end : (c : WindowCommand) (file : ℕ) (old start now next : Option Told) (lines : LinesValue) (w : WindowCounter) (r : Result (Unit {0}) Stop)
     → Progress c file start now lines w → Goes (OpensFile c.file file) old start
-    → IfErr r (λ stop. (name_of : ℕ → Option (List ℕ)) → IsNoBadLine stop × Goes (StopTold name_of stop) now next) → IfErr r (λ stop. Goes (RunStops c stop) old next)
+    → IfErr r (λ stop. (name_of : Spot → Option (List ℕ)) → IsNoBadLine stop × Goes (StopTold name_of stop) now next) → IfErr r (λ stop. Goes (RunStops c stop) old next)
 stops_at_end c file old start now next lines w (Ok d) p opens h = tt
 stops_at_end c file old start now next lines w (Err stop) p opens h =
     stops_else c file old start now next lines w stop p (h (λ k. None)).0 (all_names file stop now next (λ name_of. (h name_of).1)) opens
   where
-    all_names : (file : ℕ) (stop : Stop) (now next : Option Told) → ((name_of : ℕ → Option (List ℕ)) → Goes (StopTold name_of stop) now next) → Goes (StopsFrom file stop) now next
+    all_names : (file : ℕ) (stop : Stop) (now next : Option Told) → ((name_of : Spot → Option (List ℕ)) → Goes (StopTold name_of stop) now next) → Goes (StopsFrom file stop) now next
     all_names file stop None next h = tt
     all_names file stop (Some a) None h = h (λ k. None)
     all_names file stop (Some a) (Some b) h = λ name_of is. h name_of

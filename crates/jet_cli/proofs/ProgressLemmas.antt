@@ -15,7 +15,7 @@ use Rattle.jet_lines.proofs.FileLemmas.{good_more, numbered_fits}
 use Rattle.jet_file.specs.Outside.{Told, Goes}
 use Rattle.jet_file.specs.Text.{row_line, late_line}
 use Rattle.jet_cli.specs.Counting.{Counts, late_among, mark_after}
-use Rattle.jet_cli.specs.Feeding.{PutsPiece, TakesPiece}
+use Rattle.jet_worker.specs.Feeding.{PutsPiece, TakesPiece}
 use Rattle.jet_cli.specs.Progress.{HasRun, Progress, TookLine, base_rows_text, base_late_text, late_of_line}
 use Rattle.jet_cli.specs.Took.{Prints}
 use Rattle.jet_cli.specs.Pacing.{HasPaced}

@@ -2,9 +2,9 @@
 use Rattle.std.proofs.Common.{◌≡◌, ℕ, List, [], ◌∷◌, ◌++◌, length, map, Bool, true, false, Option, refl, ap, sym, ◌∙◌, subst, arith, append-nil, append_assoc, length-append}
 use Rattle.jet_file.specs.Outside.{Told, Place, Entry, Read, Wrote, Goes, rest_of, rest_from}
 use Rattle.jet_file.specs.declared.outside.Out.TheVariants.{Rows, Notes}
-use Rattle.jet_file.proofs.GoesLemmas.{goes_then, goes_same}
+use Rattle.jet_cli.proofs.GoesLemmas.{goes_then, goes_same}
 use Rattle.jet_lines.specs.LinesValue.{LinesValue}
-use Rattle.jet_cli.specs.Feeding.{Appends, TakesPiece}
+use Rattle.jet_worker.specs.Feeding.{Appends, TakesPiece}
 use Rattle.jet_cli.specs.Progress.{HasRun}
 
 false_not_true : {P : Type 0} → false ≡ true → P

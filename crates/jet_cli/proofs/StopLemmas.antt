@@ -1,5 +1,5 @@
 -- Why a run over a file stops, said of the whole run.
-use Rattle.std.proofs.Common.{◌≡◌, ℕ, ◌+◌, ◌<◌, ◌≤◌, List, ◌∷◌, ◌++◌, length, Bool, Option, Some, None, Err, refl, ap, sym, ◌∙◌, subst, arith, inl, inr}
+use Rattle.std.proofs.Common.{◌≡◌, ℕ, ◌+◌, ◌<◌, ◌≤◌, List, [], ◌∷◌, ◌++◌, length, append_assoc, Bool, Option, Some, None, Err, refl, ap, sym, ◌∙◌, subst, arith, inl, inr}
 use Rattle.std.specs.Prelude.{◌⊎◌, IsSomeAnd}
 use Rattle.jet_lines.specs.Cutting.{MayCome, NextIs}
 use Rattle.jet_lines.specs.Files.{first_bad_line, most_lines}
@@ -11,17 +11,29 @@ use Rattle.jet_lines.specs.declared.fault.LineFault.{LineFault}
 use Rattle.jet_lines.specs.declared.fault.LineFault.TheVariants as fault
 use Rattle.jet_lines.proofs.FileLemmas.{bad_next, numbered_fits, numbered_over, long_line}
 use Rattle.jet_file.specs.Outside.{Told, Place, Goes, OpensFile, rest_of}
-use Rattle.jet_file.proofs.ReadLemmas.{opened_rest}
-use Rattle.jet_cli.specs.Base.{base_part}
+use Rattle.jet_cli.proofs.ReadLemmas.{opened_rest}
+use Rattle.jet_cli.specs.Base.{base_name}
 use Rattle.jet_cli.specs.LineStops.{IsBadIn, IsBadLineAt, IsBadOf, RunStops, StopsFrom}
 use Rattle.jet_cli.specs.Progress.{HasRun, Progress}
-use Rattle.jet_cli.specs.Stopping.{StopTold}
+use Rattle.jet_worker.specs.Stopping.{StopTold}
 use Rattle.jet_cli.specs.Words.{WindowCommand}
 use Rattle.jet_cli.specs.declared.counter.WindowCounter.{WindowCounter}
-use Rattle.jet_cli.specs.declared.status.Stop.{Stop}
-use Rattle.jet_cli.specs.declared.status.Stop.TheVariants.{BadLine, Outside, NoMemory}
+use Rattle.jet_worker.specs.declared.stop.Spot.{Spot}
+use Rattle.jet_worker.specs.declared.stop.Stop.{Stop}
+use Rattle.jet_worker.specs.declared.stop.Stop.TheVariants.{BadLine, Outside, NoMemory}
 use Rattle.jet_cli.proofs.DoneLemmas.{some_of}
-use Rattle.jet_cli.proofs.FeedLemmas.{stop_later}
+use Rattle.jet_file.specs.Outside.{Entry, Missed}
+
+-- a stop after more calls is one
+pub stop_later : (name_of : Spot → Option (List ℕ)) (stop : Stop) (more : List Entry) (a b c : Told) → b.trace ≡ a.trace ++ more → StopTold name_of stop b c → StopTold name_of stop a c
+stop_later name_of (BadLine part line why) more a b c is h = tt
+stop_later name_of (Outside call file) more a b c is h = record {
+  before = more ++ h.before;
+  tried = h.tried;
+  trace = h.trace ∙ ap (λ (t : List Entry). t ++ h.before ++ Missed h.tried ∷ []) is ∙ ap (λ (t : List Entry). t ++ Missed h.tried ∷ []) (append_assoc a.trace more h.before);
+  is = h.is;
+}
+stop_later name_of NoMemory more a b c is h = tt
 
 bad_of : (c : WindowCommand) (content : List ℕ) (told : Told) (stop : Stop) → told.content c.file ≡ Some content → IsBadIn content stop → IsBadOf c told stop
 bad_of c content told (BadLine part n why) is h =
@@ -34,10 +46,10 @@ run_stops : (c : WindowCommand) (file : ℕ) (bytes : List ℕ) (ended : Bool) (
     → OpensFile c.file file old start → HasRun file bytes ended rows notes start now → StopsFrom file stop now next → RunStops c stop old next
 run_stops c file bytes ended rows notes stop old start now next bad opens run stops =
     let name : (now.place file).name ≡ c.file = run.name ∙ ap (λ (p : Place). p.name) opens.place in
-    let one : StopTold (base_part c) stop now next = stops (base_part c) (ap Some (sym name)) in
-    let two : StopTold (base_part c) stop start next = stop_later (base_part c) stop run.calls start now next run.trace one in
+    let one : StopTold (base_name c) stop now next = stops (base_name c) (ap Some (sym name)) in
+    let two : StopTold (base_name c) stop start next = stop_later (base_name c) stop run.calls start now next run.trace one in
     let found = some_of (old.content c.file) opens.there in (
-      stop_later (base_part c) stop _ old start next opens.trace two,
+      stop_later (base_name c) stop _ old start next opens.trace two,
       bad_of c found.0 old stop found.1 (bad found.0 (rest_of now file) (sym (opened_rest c.file found.0 file old start found.1 opens) ∙ run.rest) run.end),
     )
 

@@ -4,6 +4,8 @@ use Rattle.jet_items.specs.Marks.{is_behind}
 use Rattle.jet_items.specs.Rows.{Window, Inflow}
 use Rattle.jet_items.specs.Values.{EventValue}
 use Rattle.jet_lines.specs.Files.{events_of, most_lines}
+use Rattle.jet_worker.specs.declared.stop.Spot.{Spot}
+use Rattle.jet_worker.specs.declared.stop.Spot.TheVariants.{Part}
 use Rattle.jet_cli.specs.Words.{WindowCommand}
 
 -- the one window of `window`
@@ -23,5 +25,6 @@ abbrev pub base_behind : WindowCommand → List ℕ → EventValue → Bool
 base_behind c content = is_behind (pos c.lag) (pos c.slide) (base_events content)
 
 -- part 0 is the one file
-abbrev pub base_part : WindowCommand → ℕ → Option (List ℕ)
-base_part c part = if part == 0 then Some c.file else None
+abbrev pub base_name : WindowCommand → Spot → Option (List ℕ)
+base_name c (Part part) = if part == 0 then Some c.file else None
+base_name c spot = None

@@ -5,7 +5,7 @@ use Rattle.jet_items.specs.Values.{EventValue, RowValue}
 use Rattle.jet_file.specs.Outside.{Told, Goes}
 use Rattle.jet_cli.specs.Base.{base_window}
 use Rattle.jet_cli.specs.Counting.{kept_among, mark_after}
-use Rattle.jet_cli.specs.Feeding.{Appends}
+use Rattle.jet_worker.specs.Feeding.{Appends}
 use Rattle.jet_cli.specs.Progress.{base_rows_text}
 use Rattle.jet_cli.specs.Took.{ClosesOn}
 use Rattle.jet_cli.specs.Words.{WindowCommand}

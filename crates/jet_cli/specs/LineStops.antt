@@ -1,14 +1,20 @@
 -- Why the reading and counting of one line stops.
-use Rattle.std.specs.Prelude.{◌≡◌, ℕ, ⊤, List, Option, Some, Err, IsSomeAnd}
+use Rattle.std.specs.Prelude.{◌≡◌, ℕ, ⊤, List, Option, Some, None, Err, IsSomeAnd}
 use Rattle.jet_lines.specs.Readings.{event_at, line_at}
 use Rattle.jet_lines.specs.Files.{first_bad_line, most_lines}
 use Rattle.jet_lines.specs.declared.fault.LineFault.{LineFault}
 use Rattle.jet_file.specs.Outside.{Told, Goes}
-use Rattle.jet_cli.specs.Base.{base_part}
+use Rattle.jet_cli.specs.Base.{base_name}
+use Rattle.jet_cli.specs.BaseJob.{base_fault}
+use Rattle.jet_cli.specs.Refusals.{base_refusal}
 use Rattle.jet_cli.specs.Words.{WindowCommand}
-use Rattle.jet_cli.specs.Stopping.{StopTold}
-use Rattle.jet_cli.specs.declared.status.Stop.{Stop}
-use Rattle.jet_cli.specs.declared.status.Stop.TheVariants.{BadLine, Outside, NoMemory}
+use Rattle.jet_cli.specs.declared.halt.Halt.{Halt}
+use Rattle.jet_cli.specs.declared.halt.Halt.TheVariants.{Refused, Stopped}
+use Rattle.jet_worker.specs.Stopping.{StopTold}
+use Rattle.jet_worker.specs.declared.stop.Spot.{Spot}
+use Rattle.jet_worker.specs.declared.stop.Spot.TheVariants.{Part}
+use Rattle.jet_worker.specs.declared.stop.Stop.{Stop}
+use Rattle.jet_worker.specs.declared.stop.Stop.TheVariants.{BadLine, Outside, NoMemory}
 
 -- where the stop is for a bad line, it is this line, which has this fault
 abbrev pub IsBadLineAt : ℕ → List ℕ → Stop → Type 0
@@ -18,7 +24,7 @@ IsBadLineAt number line NoMemory = ⊤
 
 -- the line has a fault; or a call on the outside failed; or memory ran out
 abbrev pub LineStop : ℕ → List ℕ → Option Told → Option Told → Stop → Type 0
-LineStop number line old new stop = ((name_of : ℕ → Option (List ℕ)) → Goes (StopTold name_of stop) old new) × IsBadLineAt number line stop
+LineStop number line old new stop = ((name_of : Spot → Option (List ℕ)) → Goes (StopTold name_of stop) old new) × IsBadLineAt number line stop
 
 -- in this file the stop's line is the first bad one, where it is for a bad line
 abbrev pub IsBadIn : List ℕ → Stop → Type 0
@@ -38,8 +44,19 @@ IsBadOf c told NoMemory = ⊤
 
 -- why the run over the file of a command stops
 abbrev pub RunStops : WindowCommand → Stop → Told → Told → Type 0
-RunStops c stop old new = StopTold (base_part c) stop old new × IsBadOf c old stop
+RunStops c stop old new = StopTold (base_name c) stop old new × IsBadOf c old stop
 
 -- a step of the run stops, where the file is part 0
 abbrev pub StopsFrom : ℕ → Stop → Told → Told → Type 0
-StopsFrom file stop old new = (name_of : ℕ → Option (List ℕ)) → name_of 0 ≡ Some (old.place file).name → StopTold name_of stop old new
+StopsFrom file stop old new = (name_of : Spot → Option (List ℕ)) → name_of (Part 0) ≡ Some (old.place file).name → StopTold name_of stop old new
+
+-- where the stop is no want of memory, the command's job is valid
+abbrev pub IsOfValid : WindowCommand → Stop → Type 0
+IsOfValid c (BadLine part n why) = base_fault c ≡ None
+IsOfValid c (Outside call spot) = base_fault c ≡ None
+IsOfValid c NoMemory = ⊤
+
+-- why `window` ends early: its job is refused, or it stops
+abbrev pub BaseHalts : WindowCommand → Option Told → Option Told → Halt → Type 0
+BaseHalts c old new (Refused why) = base_refusal c ≡ Some why
+BaseHalts c old new (Stopped stop) = Goes (RunStops c stop) old new × IsOfValid c stop

@@ -10,7 +10,7 @@ use Rattle.jet_file.specs.Outside.{Told, Entry, Goes, rest_of}
 use Rattle.jet_file.specs.Text.{row_line, late_line}
 use Rattle.jet_file.specs.declared.outside.Out.TheVariants.{Rows, Notes}
 use Rattle.jet_cli.specs.Counting.{Counts, late_among, mark_after}
-use Rattle.jet_cli.specs.Feeding.{Appends}
+use Rattle.jet_worker.specs.Feeding.{Appends}
 use Rattle.jet_cli.specs.Pacing.{HasPaced}
 use Rattle.jet_cli.specs.Took.{ClosesOn, Prints, late_text_of}
 use Rattle.jet_cli.specs.Words.{WindowCommand}

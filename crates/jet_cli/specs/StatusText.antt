@@ -1,14 +1,19 @@
 -- The line that tells how a run ended, and the exit status of the program.
-use Rattle.std.specs.Prelude.{ℕ, List, [], ◌∷◌, ◌++◌, codes, decimal}
+use Rattle.std.specs.Prelude.{ℕ, List, [], ◌∷◌, ◌++◌, Option, Some, None, codes, decimal}
 use Rattle.jet_lines.specs.Faults.{fault_number}
 use Rattle.jet_lines.specs.declared.fault.LineFault.{LineFault}
-use Rattle.jet_cli.specs.declared.status.Call.{Call}
-use Rattle.jet_cli.specs.declared.status.Call.TheVariants.{Open, Read, Write}
-use Rattle.jet_cli.specs.declared.status.Spot.{Spot}
-use Rattle.jet_cli.specs.declared.status.Spot.TheVariants.{Job, Part, Rows, Notes}
-use Rattle.jet_cli.specs.declared.status.PlanFault.TheVariants.{Policy}
+use Rattle.jet_job.specs.FaultNumbers as job
+use Rattle.jet_job.specs.declared.fault.JobFault.{JobFault}
+use Rattle.jet_job.specs.declared.place.Place.{Place}
+use Rattle.jet_job.specs.declared.place.Place.TheVariants as place
+use Rattle.jet_plan.specs.FaultNumbers as plan
+use Rattle.jet_plan.specs.declared.fault.PlanFault.{PlanFault}
+use Rattle.jet_worker.specs.declared.stop.Call.{Call}
+use Rattle.jet_worker.specs.declared.stop.Call.TheVariants.{Open, Read, Write}
+use Rattle.jet_worker.specs.declared.stop.Spot.{Spot}
+use Rattle.jet_worker.specs.declared.stop.Spot.TheVariants.{Job, Part, Rows, Notes}
 use Rattle.jet_cli.specs.declared.status.Refusal.{Refusal}
-use Rattle.jet_cli.specs.declared.status.Refusal.TheVariants.{Plan}
+use Rattle.jet_cli.specs.declared.status.Refusal.TheVariants as refusal
 use Rattle.jet_cli.specs.declared.status.Status.{Status}
 use Rattle.jet_cli.specs.declared.status.Status.TheVariants as status
 
@@ -16,9 +21,32 @@ use Rattle.jet_cli.specs.declared.status.Status.TheVariants as status
 abbrev pub usage_line : List ℕ
 usage_line = codes "jet: usage: jet run JOB, jet window SIZE SLIDE LAG FILE, jet plan JOB, jet check JOB, jet trial SEED" ++ 10 ∷ []
 
--- the number of the plan's fault, 16 where the sizes of a vertex are refused, and the number of the vertex
+-- the words for the object of a job file that has a fault
+abbrev pub place_text : Option Place → List ℕ
+place_text None = []
+place_text (Some place.Top) = codes " top"
+place_text (Some (place.Vertex vertex)) = codes " vertex " ++ decimal vertex
+place_text (Some (place.Leg vertex leg)) = codes " leg " ++ (decimal vertex ++ (codes " " ++ decimal leg))
+place_text (Some (place.Edge edge)) = codes " edge " ++ decimal edge
+place_text (Some place.Settings) = codes " settings"
+
+-- the number of a job file's fault, and its object
+abbrev pub job_line : JobFault → List ℕ
+job_line why = codes "jet: job refused: job fault " ++ (decimal (job.fault_number why) ++ (place_text (job.fault_place why) ++ 10 ∷ []))
+
+-- the words for the vertex or edge that has a fault
+abbrev pub at_text : Option ℕ → List ℕ
+at_text None = []
+at_text (Some at) = codes " at " ++ decimal at
+
+-- the number of a plan's fault, and its vertex or edge
+abbrev pub plan_line : PlanFault → List ℕ
+plan_line why = codes "jet: job refused: plan fault " ++ (decimal (plan.fault_number why) ++ (at_text (plan.fault_place why) ++ 10 ∷ []))
+
+-- the fault of the job file, or of the job
 abbrev pub refused_line : Refusal → List ℕ
-refused_line (Plan (Policy vertex why)) = codes "jet: job refused: plan fault 16 at " ++ (decimal vertex ++ 10 ∷ [])
+refused_line (refusal.Job why) = job_line why
+refused_line (refusal.Plan why) = plan_line why
 
 -- the numbers of the file, of the line and of its fault
 abbrev pub bad_line : ℕ → ℕ → LineFault → List ℕ

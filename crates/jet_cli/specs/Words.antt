@@ -1,9 +1,8 @@
 -- The words that are a command.
-use Rattle.std.specs.Prelude.{ℕ, ◌==◌, nat_le, ◌&&◌, not, Bool, List, [], ◌∷◌, length, slice_index, Option, Some, None, bytes_eq, codes, if◌then◌else◌}
-use Rattle.std.specs.List.{list_all}
-use Rattle.std.specs.Char.{is_ascii_digit}
-use Rattle.std.specs.Str.Parse.{digits_value}
+use Rattle.std.specs.Prelude.{ℕ, ◌==◌, nat_le, ◌&&◌, not, Bool, List, [], ◌∷◌, length, slice_index, Option, Some, None, option_map, bytes_eq, codes, if◌then◌else◌}
 use Rattle.jet_items.specs.Ranges.{most_time}
+use Rattle.jet_cli.specs.Digits.{digits_word}
+use Rattle.jet_cli.specs.JobWords.{JobCommand, parts_of, job_in}
 
 -- `window SIZE SLIDE LAG FILE`
 pub record WindowCommand : Type 0 where
@@ -12,13 +11,11 @@ pub record WindowCommand : Type 0 where
   pub lag : ℕ
   pub file : List ℕ
 
--- one digit to so many of them
-abbrev pub is_digits : ℕ → List ℕ → Bool
-is_digits most digits = nat_le 1 (length digits) && nat_le (length digits) most && list_all is_ascii_digit digits
-
--- the number of one digit to so many, leading zeros among them
-abbrev pub digits_word : ℕ → List ℕ → Option ℕ
-digits_word most digits = if is_digits most digits then Some (digits_value 10 digits) else None
+-- `window`, `plan` or `check`, with what stands behind it
+pub data JetCommand : Type 0 where
+  WindowOf : WindowCommand → JetCommand
+  PlanOf : JobCommand → JetCommand
+  CheckOf : JobCommand → JetCommand
 
 -- a name of 1 to 255 bytes that does not begin with a minus
 abbrev pub is_file_name : List ℕ → Bool
@@ -30,8 +27,20 @@ window_at (Some size) (Some slide) (Some lag) file =
     if nat_le lag most_time && is_file_name file then Some (record { size = size; slide = slide; lag = lag; file = file }) else None
 window_at size slide lag file = None
 
+-- the words behind `window`
+abbrev pub window_of : List (List ℕ) → Option WindowCommand
+window_of (size ∷ slide ∷ lag ∷ file ∷ []) = window_at (digits_word 16 size) (digits_word 16 slide) (digits_word 16 lag) file
+window_of words = None
+
+-- the words behind `plan` and `check`
+abbrev pub job_of : List (List ℕ) → Option JobCommand
+job_of words = job_in (parts_of words)
+
 -- the command of these words, where they are one
-abbrev pub command_of : List (List ℕ) → Option WindowCommand
-command_of (command ∷ size ∷ slide ∷ lag ∷ file ∷ []) =
-    if bytes_eq command (codes "window") then window_at (digits_word 16 size) (digits_word 16 slide) (digits_word 16 lag) file else None
-command_of words = None
+abbrev pub command_of : List (List ℕ) → Option JetCommand
+command_of [] = None
+command_of (command ∷ words) =
+    if bytes_eq command (codes "window") then option_map WindowOf (window_of words)
+    else if bytes_eq command (codes "plan") then option_map PlanOf (job_of words)
+    else if bytes_eq command (codes "check") then option_map CheckOf (job_of words)
+    else None

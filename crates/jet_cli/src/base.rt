@@ -7,21 +7,22 @@ ghost use Rattle.jet_cli.specs.LineStops.{LineStop, RunStops};
 ghost use Rattle.jet_cli.specs.Progress.{TookLine};
 ghost use Rattle.jet_file.specs.Outside.{Goes, LacksFile};
 ghost use Rattle.jet_cli.specs.Ending.{Ends};
-ghost use Rattle.jet_cli.specs.Stopping.{IsForOutside, IsNoBadLine, OpenOutcome, Outcome, StopTold};
+ghost use Rattle.jet_worker.specs.Stopping.{IsForOutside, IsNoBadLine, OpenOutcome, Outcome, StopTold};
 ghost use Rattle.jet_cli.specs.Done.{IsDone};
-ghost use Rattle.jet_cli.specs.WordsView.{command_in};
+ghost use Rattle.jet_cli.specs.WordsView.{window_in};
 ghost use Rattle.jet_items.specs.Ranges.{most_time};
+ghost use Rattle.jet_worker.specs.declared.stop.Spot.{Spot};
 ghost use Rattle.jet_cli.specs.Took.{IsInStep, Prints};
 ghost use Rattle.jet_cli.specs.Words.{WindowCommand};
 ghost use Rattle.jet_lines.specs.Readings.{event_at, line_at};
 
 use crate::counter::WindowCounter;
-use crate::feed::{open_data, read_piece};
-use crate::{Stop, WindowWords};
+use crate::{Spot, Stop, WindowWords};
 use jet_file::Outside;
 use jet_items::Refused;
 use jet_lines::{Cut, Lines, read_line};
 use jet_policy::WinPolicy;
+use jet_worker::{open_data, read_piece};
 use std::alloc::Global;
 
 // Reads one line, counts what it holds, and writes what that closes.
@@ -64,7 +65,7 @@ fn end_file<O: Outside>(alloc: Global, counter: &mut WindowCounter, out: &mut O)
         → Counts c events table counter.old.marker counter.old.window → Prints c counter.old
         → counter.old.rows.items ≡ [] → counter.old.notes.items ≡ []
         → Ends c events table (O.told out.old) (O.told out.new)) }
-    ensures stop { IfErr result (λ stop. (name_of : ℕ → Option (List ℕ)) → IsNoBadLine stop × Goes (StopTold name_of stop) (O.told out.old) (O.told out.new)) }
+    ensures stop { IfErr result (λ stop. (name_of : Spot → Option (List ℕ)) → IsNoBadLine stop × Goes (StopTold name_of stop) (O.told out.old) (O.told out.new)) }
     ensures outcome { Outcome O.opened O.steady O.faults out.old out.new result }
 {
     match counter.finish(alloc) {
@@ -83,18 +84,18 @@ pub(crate) fn run_window<O: Outside>(
     requires size { policy.size ≡ pos words.now.size }
     requires slide { policy.slide ≡ pos words.now.slide }
     requires lag { words.now.lag ≤ most_time }
-    ensures done { OnOk result (Goes (IsDone (command_in words.now) (O.opened out.old) (O.opened out.new)) (O.told out.old) (O.told out.new)) }
-    ensures stop { IfErr result (λ stop. Goes (RunStops (command_in words.now) stop) (O.told out.old) (O.told out.new)) }
+    ensures done { OnOk result (Goes (IsDone (window_in words.now) (O.opened out.old) (O.opened out.new)) (O.told out.old) (O.told out.new)) }
+    ensures stop { IfErr result (λ stop. Goes (RunStops (window_in words.now) stop) (O.told out.old) (O.told out.new)) }
     ensures works { O.steady out.old ≡ true → IfErr result (λ stop. IsForOutside stop → LacksFile words.now.file.now (O.told out.old)) }
     ensures outcome { OpenOutcome O.steady O.faults out.old out.new result }
 {
-    let file = open_data(out, words.file)?;
+    let file = open_data(out, Spot::Part(0), words.file)?;
     let mut lines = Lines::new(alloc, MOST_LINES);
     let mut counter = WindowCounter::new(alloc, policy, words.lag as i64);
     'cuts: loop {
         match lines.next() {
             Cut::Line(number) => take_line(alloc, lines.line(), number, &mut counter, out)?,
-            Cut::More => read_piece(out, file, &mut lines)?,
+            Cut::More => read_piece(out, Spot::Part(0), file, &mut lines)?,
             Cut::Bad(line, why) => return Err(Stop::BadLine { part: 0, line, why }),
             Cut::End => return end_file(alloc, &mut counter, out),
         }

@@ -10,18 +10,18 @@ ghost use Rattle.jet_cli.specs.Advance.{Advanced};
 ghost use Rattle.jet_file.specs.Outside.{Goes};
 ghost use Rattle.jet_policy.specs.Policy.{IsPolicy};
 ghost use Rattle.jet_cli.specs.Counting.{Counts};
-ghost use Rattle.jet_cli.specs.Feeding.{Flushes};
+ghost use Rattle.jet_worker.specs.Feeding.{Flushes};
 ghost use Rattle.jet_cli.specs.Finished.{Finished};
-ghost use Rattle.jet_cli.specs.Stopping.{IsNoBadLine, Outcome};
+ghost use Rattle.jet_worker.specs.Stopping.{IsNoBadLine, Outcome};
 ghost use Rattle.jet_cli.specs.Took.{IsInStep, Prints, Took, is_below, mark_in};
 ghost use Rattle.jet_cli.specs.Words.{WindowCommand};
 
 use crate::Stop;
-use crate::feed::write_texts;
 use jet_file::{Outside, print_late, print_row};
 use jet_items::{Event, Key, Late, NoMemory, Row};
 use jet_policy::{Marker, WinPolicy};
 use jet_window::PlainWindow;
+use jet_worker::write_texts;
 use std::alloc::Global;
 
 /// Counts one window over the events of one file. The texts hold what is not yet written.

@@ -1,11 +1,13 @@
 // The line that tells how a run ended, and the exit status of the program. The line is built whole before it is
 // appended, so that want of memory appends nothing.
 ghost use Rattle.std.specs.Prelude.{◌≡◌, ◌++◌, [], ◌∷◌, IfOk, OnOk, OnErr, string_bytes, decimal, codes};
-ghost use Rattle.jet_cli.specs.StatusText.{status_line, usage_line, refused_line, bad_line, fault_line, spot_name, call_name, exit_number};
+ghost use Rattle.jet_cli.specs.StatusText.{status_line, usage_line, refused_line, job_line, place_text, plan_line, at_text, bad_line, fault_line, spot_name, call_name, exit_number};
 
-use crate::status::{Call, PlanFault, Refusal, Spot, Status};
+use crate::{Call, Refusal, Spot, Status};
 use jet_items::NoMemory;
+use jet_job::{JobFault, Place};
 use jet_lines::LineFault;
+use jet_plan::PlanFault;
 use std::alloc::{AllocError, Global};
 
 /// Appends the line of a status, with its line feed. After Done there is nothing to say.
@@ -58,14 +60,49 @@ fn refused_text(alloc: Global, refusal: &Refusal) -> Result<String, AllocError>
     ensures { IfOk result (λ text. string_bytes text ≡ refused_line refusal.now) }
 {
     match refusal {
-        Refusal::Plan(PlanFault::Policy(vertex, _)) => policy_text(alloc, *vertex),
+        Refusal::Job(fault) => job_text(alloc, fault),
+        Refusal::Plan(fault) => plan_text(alloc, fault),
     }
 }
 
-fn policy_text(alloc: Global, vertex: u32) -> Result<String, AllocError>
-    ensures { IfOk result (λ text. string_bytes text ≡ codes "jet: job refused: plan fault 16 at " ++ (decimal vertex ++ 10 ∷ [])) }
+fn job_text(alloc: Global, fault: &JobFault) -> Result<String, AllocError>
+    ensures { IfOk result (λ text. string_bytes text ≡ job_line fault.now) }
 {
-    format!(in alloc; "jet: job refused: plan fault 16 at {vertex}\n")
+    let number = fault.number();
+    let place = place_text(alloc, fault.place())?;
+    let place = place.as_str();
+    format!(in alloc; "jet: job refused: job fault {number}{place}\n")
+}
+
+fn place_text(alloc: Global, place: Option<Place>) -> Result<String, AllocError>
+    ensures { IfOk result (λ text. string_bytes text ≡ place_text place) }
+{
+    match place {
+        None => Ok(String::new(alloc)),
+        Some(Place::Top) => String::from_str(alloc, " top"),
+        Some(Place::Vertex(vertex)) => format!(in alloc; " vertex {vertex}"),
+        Some(Place::Leg(vertex, leg)) => format!(in alloc; " leg {vertex} {leg}"),
+        Some(Place::Edge(edge)) => format!(in alloc; " edge {edge}"),
+        Some(Place::Settings) => String::from_str(alloc, " settings"),
+    }
+}
+
+fn plan_text(alloc: Global, fault: &PlanFault) -> Result<String, AllocError>
+    ensures { IfOk result (λ text. string_bytes text ≡ plan_line fault.now) }
+{
+    let number = fault.number();
+    let place = at_text(alloc, fault.place())?;
+    let place = place.as_str();
+    format!(in alloc; "jet: job refused: plan fault {number}{place}\n")
+}
+
+fn at_text(alloc: Global, place: Option<u32>) -> Result<String, AllocError>
+    ensures { IfOk result (λ text. string_bytes text ≡ at_text place) }
+{
+    match place {
+        Some(at) => format!(in alloc; " at {at}"),
+        None => Ok(String::new(alloc)),
+    }
 }
 
 fn bad_text(alloc: Global, part: u16, line: u32, why: &LineFault) -> Result<String, AllocError>

@@ -1,10 +1,10 @@
-// Worked runs of the top call over an outside in memory, the real outside at a missing file and a directory, and the
-// line of each status.
+// Worked runs of the top call over an outside in memory, and the real outside at a missing file and a directory.
 ghost use Rattle.std.specs.Prelude.{◌≡◌, ◌<◌};
 
 use super::*;
 use jet_file::{MemoryOutside, Out, OutFault, Outside};
 use jet_lines::LineFault;
+use jet_plan::PlanFault;
 use jet_policy::PolicyFault;
 use std::alloc::Global;
 use std::marker::Brand;
@@ -205,38 +205,5 @@ fn missing_files_and_directories_fail(rt: HostRuntime) -> Result<(), Fail> {
     let mut buf = [0u8; 16];
     let directory = out.read(file, &mut buf);
     assert_eq!(rt; directory, Err(OutFault::Failed));
-    Ok(())
-}
-
-#[test]
-fn each_status_has_its_line(rt: HostRuntime) -> Result<(), Fail> {
-    let usage =
-        "jet: usage: jet run JOB, jet window SIZE SLIDE LAG FILE, jet plan JOB, jet check JOB, jet trial SEED\n";
-    let policy = PlanFault::Policy(1, PolicyFault::NotMultiple);
-    let bad = Status::BadLine {
-        part: 0,
-        line: 3,
-        why: LineFault::Number(0),
-    };
-    let unread = Status::OutsideFault {
-        call: Call::Read,
-        file: Spot::Part(0),
-    };
-    let lines = [
-        (Status::Done, ""),
-        (Status::Usage, usage),
-        (
-            Status::JobRefused(Refusal::Plan(policy)),
-            "jet: job refused: plan fault 16 at 1\n",
-        ),
-        (bad, "jet: bad line: part 0 line 3: fault 5\n"),
-        (unread, "jet: fault: read part 0\n"),
-        (Status::NoMemory, "jet: no memory\n"),
-    ];
-    for (status, line) in &lines {
-        let mut text = Vec::new(rt.alloc());
-        print_status(rt.alloc(), status, &mut text)?;
-        assert_eq!(rt; text.as_slice(), line.as_bytes());
-    }
     Ok(())
 }

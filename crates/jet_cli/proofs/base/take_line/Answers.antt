@@ -2,7 +2,7 @@ use Rattle.std.proofs.Common.{◌≡◌, ℕ, ◌<◌, Some, sym, subst, OnOk, A
 use Rattle.jet_items.specs.Values.{EventValue}
 use Rattle.jet_lines.specs.Readings.{event_at, line_at}
 use Rattle.jet_cli.specs.Progress.{TookLine}
-use Rattle.jet_cli.specs.declared.status.Stop.{Stop}
+use Rattle.jet_worker.specs.declared.stop.Stop.{Stop}
 use Rattle.jet_cli.proofs.LineLemmas.{event_line, wrote_event, write_stops, wrote_nothing, on_ok_from}
 use Rattle.jet_cli.proofs.base.take_line.Goals as goal
 

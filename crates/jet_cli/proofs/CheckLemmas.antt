@@ -1,0 +1,234 @@
+-- What the command `check` comes to.
+use Rattle.std.proofs.Common.{◌≡◌, ℕ, List, [], ◌++◌, length, take, Bool, true, false, Option, Some, None, refl, ap, sym, ◌∙◌, subst, arith, All, inl, inr}
+use Rattle.std.specs.Prelude.{◌≢◌, Any, IsSome, IsSomeAnd, option_map, slice_get, flat_map, ◌==◌}
+use Rattle.std.specs.Option.{unwrap_or}
+use Rattle.std.proofs.lemmas.List.Elements.{All-weaker}
+use Rattle.jet_lines.specs.declared.fault.LineFault.{LineFault}
+use Rattle.jet_file.specs.Headline.{IsReadWhole}
+use Rattle.jet_file.specs.Outside.{Told, Place, Tried, Opening, Reading, Writing, Entry, Goes, AddsNumber, LacksFile}
+use Rattle.jet_file.specs.declared.outside.Out.{Out}
+use Rattle.jet_file.specs.declared.outside.Out.TheVariants as out
+use Rattle.jet_flow.specs.DataFiles.{DataFile, data_files, file_name}
+use Rattle.jet_plan.specs.Plans.{IsValid}
+use Rattle.jet_plan.specs.declared.plan.Plan.{Plan}
+use Rattle.jet_worker.specs.CheckText.{Checks, check_line, first_bad}
+use Rattle.jet_worker.specs.Checked.{CheckStops, IsBadLine, IsCheckOf, IsChecked, IsGood, IsRead, LacksSome, check_lines, name_in, numbered}
+use Rattle.jet_worker.specs.Stopping.{EndsFailed, IsCallOf}
+use Rattle.jet_worker.specs.declared.stop.Call.{Call}
+use Rattle.jet_worker.specs.declared.stop.Call.TheVariants.{Open, Read, Write}
+use Rattle.jet_worker.specs.declared.stop.Spot.{Spot}
+use Rattle.jet_worker.specs.declared.stop.Spot.TheVariants.{Job, Part, Rows, Notes}
+use Rattle.jet_worker.specs.declared.stop.Stop.{Stop}
+use Rattle.jet_worker.specs.declared.stop.Stop.TheVariants.{BadLine, Outside, NoMemory}
+use Rattle.jet_plan.specs.Faults.{fault}
+use Rattle.jet_plan.specs.declared.dag.Dag.{Dag}
+use Rattle.jet_plan.specs.declared.settings.Settings.{Settings}
+use Rattle.jet_cli.specs.CheckedJob.{CheckHalts, HasChecks, IsCheckedJob, LacksFiles, check_name, files_in, files_of}
+use Rattle.jet_cli.specs.Halting.{IsKnown, IsNoBadHalt}
+use Rattle.jet_cli.specs.JobFiles.{ReadHalts, ReadsPlan}
+use Rattle.jet_cli.specs.declared.halt.Halt.{Halt}
+use Rattle.jet_cli.specs.declared.halt.Halt.TheVariants.{Refused, Stopped}
+use Rattle.jet_cli.proofs.GrainLemmas.{check_of}
+use Rattle.jet_cli.specs.JobWords.{JobCommand}
+use Rattle.jet_cli.specs.Refusals.{job_refusal, text_refusal, with_options}
+use Rattle.jet_cli.specs.declared.status.Refusal.TheVariants as refusal
+use Rattle.jet_cli.proofs.EarlyLemmas.{none_known}
+use Rattle.jet_cli.proofs.GoesLemmas.{goes_weaker}
+use Rattle.jet_cli.proofs.StopLemmas.{stop_later}
+
+-- ---- names
+-- a namer that names more names the same call
+call_named : (names more : Spot → Option (List ℕ)) (told : Told) (call : Call) (spot : Spot) (tried : Tried) → ((s : Spot) (name : List ℕ) → names s ≡ Some name → more s ≡ Some name)
+    → IsCallOf names told call spot tried → IsCallOf more told call spot tried
+call_named names more told Open spot (Opening name) f h = f spot name h
+call_named names more told Open spot (Reading file) f h = absurd h
+call_named names more told Open spot (Writing to) f h = absurd h
+call_named names more told Read spot (Opening name) f h = absurd h
+call_named names more told Read spot (Reading file) f h = f spot (told.place file).name h
+call_named names more told Read spot (Writing to) f h = absurd h
+call_named names more told Write Rows (Writing out.Rows) f h = tt
+call_named names more told Write Rows (Writing out.Notes) f h = absurd h
+call_named names more told Write Rows (Opening name) f h = absurd h
+call_named names more told Write Rows (Reading file) f h = absurd h
+call_named names more told Write Notes (Writing out.Notes) f h = tt
+call_named names more told Write Notes (Writing out.Rows) f h = absurd h
+call_named names more told Write Notes (Opening name) f h = absurd h
+call_named names more told Write Notes (Reading file) f h = absurd h
+call_named names more told Write Job (Opening name) f h = absurd h
+call_named names more told Write Job (Reading file) f h = absurd h
+call_named names more told Write Job (Writing to) f h = absurd h
+call_named names more told Write (Part p) (Opening name) f h = absurd h
+call_named names more told Write (Part p) (Reading file) f h = absurd h
+call_named names more told Write (Part p) (Writing to) f h = absurd h
+
+no_name : {P : Type 0} (name : List ℕ) → let n : Option (List ℕ) = None in n ≡ Some name → P
+no_name name h = absurd (cc h)
+
+-- the files of a check are those of the job in the job file
+files_are : (c : JobCommand) (old : Told) (h : HasChecks c old) → files_of (old.content c.job) ≡ h.checks.files
+files_are c old h = ap files_of h.content_is ∙ ap files_in h.job_is ∙ sym h.is.files
+
+name_more : (c : JobCommand) (old : Told) (h : HasChecks c old) (s : Spot) (name : List ℕ) → name_in h.checks s ≡ Some name → check_name c old.content s ≡ Some name
+name_more c old h (Part p) name is = ap (λ (files : List DataFile). option_map file_name (slice_get files p)) (files_are c old h) ∙ is
+name_more c old h Job name is = no_name name is
+name_more c old h Rows name is = no_name name is
+name_more c old h Notes name is = no_name name is
+
+fails_named : (c : JobCommand) (old : Told) (h : HasChecks c old) (call : Call) (spot : Spot) (mid new : Told) (more : List Entry) → mid.trace ≡ old.trace ++ more
+    → EndsFailed (name_in h.checks) call spot mid new → EndsFailed (check_name c old.content) call spot old new
+fails_named c old h call spot mid new more is f =
+    let later : EndsFailed (name_in h.checks) call spot old new = stop_later (name_in h.checks) (Outside call spot) more old mid new is f in
+    record { before = later.before; tried = later.tried; trace = later.trace; is = call_named (name_in h.checks) (check_name c old.content) new call spot later.tried (name_more c old h) later.is }
+
+-- ---- from the reading of the job file on
+module _ (k : Checks) (old mid : Told) (kept : mid.content ≡ old.content) (written : mid.written ≡ old.written) where
+  good_same : (ps : List (ℕ × DataFile)) → All (IsGood k mid) ps → All (IsGood k old) ps
+  good_same ps = subst (λ (ct : List ℕ → Option (List ℕ)). All (λ (p : ℕ × DataFile). IsSomeAnd (ct (file_name p.1)) (λ content. first_bad k p content ≡ None)) ps) kept
+
+  lines_same : (ps : List (ℕ × DataFile)) → check_lines k mid ps ≡ check_lines k old ps
+  lines_same ps = ap (λ (ct : List ℕ → Option (List ℕ)). flat_map (λ (p : ℕ × DataFile). check_line k p (unwrap_or (ct (file_name p.1)) [])) ps) kept
+
+  wrote_same : (to : Out) (text : List ℕ) (ps : List (ℕ × DataFile)) → text ≡ mid.written to ++ check_lines k mid ps → text ≡ old.written to ++ check_lines k old ps
+  wrote_same to text ps is = is ∙ ap (λ w. w to ++ check_lines k mid ps) written ∙ ap (λ (l : List ℕ). old.written to ++ l) (lines_same ps)
+
+  bad_same : (part line : ℕ) (why : LineFault) (new : Told) → IsBadLine k part line why mid new → IsBadLine k part line why old new
+  bad_same part line why new b = record {
+    file = b.file;
+    is = b.is;
+    bad = subst (λ (ct : List ℕ → Option (List ℕ)). IsSomeAnd (ct (file_name b.file)) (λ content. first_bad k (part, b.file) content ≡ Some (line, why))) kept b.bad;
+    good = good_same (take part (numbered k)) b.good;
+    rows = wrote_same out.Rows (new.written out.Rows) (take part (numbered k)) b.rows;
+    notes = b.notes ∙ ap (λ w. w out.Notes) written;
+    kept = b.kept ∙ kept;
+    there = subst (λ (ct : List ℕ → Option (List ℕ)). All (λ (f : DataFile). IsSome (ct (file_name f))) k.files) kept b.there;
+  }
+
+  -- a number that is new behind the job file's is new
+  fresh_before : (file : ℕ) (before now : ℕ → Bool) → AddsNumber file before now → (n : ℕ) → now n ≡ false → before n ≡ false
+  fresh_before file before now adds n h = fresh_if (n == file) refl
+    where
+      same_is : (n file : ℕ) → (n == file) ≡ true → n ≡ file
+      same_is n file is = grind (arith, is)
+
+      not_same : (n file : ℕ) → (n == file) ≡ false → n ≢ file
+      not_same n file is = λ e. grind (arith, is, e)
+
+      both : (b : Bool) → b ≡ true → b ≡ false → ⊥
+      both b t f = cc (sym t ∙ f)
+
+      fresh_if : (b : Bool) → (n == file) ≡ b → before n ≡ false
+      fresh_if true is = absurd (both (now file) adds.added (ap now (sym (same_is n file is)) ∙ h))
+      fresh_if false is = sym (adds.others n (not_same n file is)) ∙ h
+
+  read_more : (file : ℕ) (before opened now : ℕ → Bool) (new : Told) → AddsNumber file before opened → (p : ℕ × DataFile) → IsRead opened now mid new p → IsRead before now old new p
+  read_more file before opened now new adds p h =
+      some_read (old.content (file_name p.1)) (subst (λ (ct : List ℕ → Option (List ℕ)). IsSomeAnd (ct (file_name p.1)) (λ content. IsReadWhole (file_name p.1) content opened now new)) kept h)
+    where
+      some_read : (o : Option (List ℕ)) → IsSomeAnd o (λ content. IsReadWhole (file_name p.1) content opened now new) → IsSomeAnd o (λ content. IsReadWhole (file_name p.1) content before now new)
+      some_read None h = h
+      some_read (Some content) h = record { file = h.file; fresh = fresh_before file before opened adds h.file h.fresh; opened = h.opened; place = h.place }
+
+  -- a number that was open is another one than the job file's
+  not_new : (file : ℕ) (before opened : ℕ → Bool) → AddsNumber file before opened → (n : ℕ) → before n ≡ true → n ≢ file
+  not_new file before opened adds n was same = no (sym was ∙ ap before same ∙ adds.fresh)
+    where
+      no : true ≡ false → ⊥
+      no h = cc h
+
+  checked_same : (file : ℕ) (before opened now : ℕ → Bool) (new : Told) → AddsNumber file before opened → ((other : ℕ) → other ≢ file → mid.place other ≡ old.place other) → IsChecked k opened now mid new
+      → IsChecked k before now old new
+  checked_same file before opened now new adds others d = record {
+    good = good_same (numbered k) d.good;
+    read = All-weaker (IsRead opened now mid new) (IsRead before now old new) (λ p h. read_more file before opened now new adds p h) (numbered k) d.read;
+    rows = wrote_same out.Rows (new.written out.Rows) (numbered k) d.rows;
+    notes = d.notes ∙ ap (λ w. w out.Notes) written;
+    kept = d.kept ∙ kept;
+    opened = λ n was. d.opened n (adds.others n (not_new file before opened adds n was) ∙ was);
+    places = λ n was. d.places n (adds.others n (not_new file before opened adds n was) ∙ was) ∙ others n (not_new file before opened adds n was);
+  }
+
+-- ---- the run of `check`
+abbrev plan_valid : Plan → Type 0
+plan_valid plan = IsValid plan.dag plan.settings
+
+checks_of : (c : JobCommand) (plan : Plan) (before opened : ℕ → Bool) (a b : Told) → plan_valid plan → ReadsPlan c plan before opened a b → (h : HasChecks c a) × IsCheckOf plan.dag plan.settings h.checks
+checks_of c plan before opened a b valid r =
+    let valid_job : fault r.job.dag (with_options c.options r.job.settings) ≡ None =
+    ap (λ (s : Settings). fault r.job.dag s) (sym r.settings) ∙ ap (λ (g : Dag). fault g plan.settings) (sym r.dag) ∙ valid in
+    let k = check_of r.job.dag (with_options c.options r.job.settings) valid_job in
+    let of_plan : IsCheckOf plan.dag plan.settings k.0 =
+    subst (λ (g : Dag). IsCheckOf g plan.settings k.0) (sym r.dag) (subst (λ (s : Settings). IsCheckOf r.job.dag s k.0) (sym r.settings) k.1) in
+    (record { content = r.content; job = r.job; content_is = r.content_is; job_is = r.job_is; valid = valid_job; checks = k.0; is = k.1 }, of_plan)
+
+-- what is said of every check of a job, where there is one
+goes_of_all : (c : JobCommand) (plan : Plan) (P : Checks → Told → Told → Type 0) (T : Told → Told → Type 0) (before opened : ℕ → Bool) → plan_valid plan
+    → ((a b d : Told) (r : ReadsPlan c plan before opened a b) (h : HasChecks c a) → P h.checks b d → T a d)
+    → (old mid new : Option Told) → Goes (ReadsPlan c plan before opened) old mid → ((k : Checks) → IsCheckOf plan.dag plan.settings k → Goes (P k) mid new) → Goes T old new
+goes_of_all c plan P T before opened valid f None mid new r all = tt
+goes_of_all c plan P T before opened valid f (Some a) None new r all = absurd r
+goes_of_all c plan P T before opened valid f (Some a) (Some b) None r all =
+    let found = checks_of c plan before opened a b valid r in
+    absurd (all found.0.checks found.1)
+goes_of_all c plan P T before opened valid f (Some a) (Some b) (Some d) r all =
+    let found = checks_of c plan before opened a b valid r in
+    f a b d r found.0 (all found.0.checks found.1)
+
+pub goes_checked : (c : JobCommand) (plan : Plan) (before opened now : ℕ → Bool) → plan_valid plan → (old mid new : Option Told) → Goes (ReadsPlan c plan before opened) old mid
+    → ((k : Checks) → IsCheckOf plan.dag plan.settings k → Goes (IsChecked k opened now) mid new) → Goes (IsCheckedJob c before now) old new
+goes_checked c plan before opened now valid =
+    goes_of_all c plan (λ k. IsChecked k opened now) (IsCheckedJob c before now) before opened valid
+    (λ a b d r h k. record {
+      job = h;
+      read = record {
+        file = r.file;
+        fresh = r.opened.fresh;
+        opened = k.opened r.file r.opened.added;
+        place = k.places r.file r.opened.added ∙ r.place ∙ ap (λ (t : List ℕ). let p : Place = record { name = c.job; taken = length t } in p) (same_some r.content h.content (sym r.content_is ∙ h.content_is));
+      };
+      files = checked_same h.checks a b r.kept r.written r.file before opened now d r.opened r.others k;
+    })
+  where
+    same_some : (x y : List ℕ) → Some x ≡ Some y → x ≡ y
+    same_some x y h = cc h
+
+halts_check : (c : JobCommand) (stop : Stop) (a b d : Told) (more : List Entry) → b.trace ≡ a.trace ++ more → b.content ≡ a.content → b.written ≡ a.written → (h : HasChecks c a) → CheckStops h.checks stop b d
+    → CheckHalts c (Stopped stop) a d
+halts_check c (BadLine part line why) a b d more is kept written h s = record { job = h; bad = bad_same h.checks a b kept written part line why d s }
+halts_check c (Outside call spot) a b d more is kept written h s = fails_named c a h call spot b d more is s.0
+halts_check c NoMemory a b d more is kept written h s = tt
+
+pub goes_check_stops : (c : JobCommand) (plan : Plan) (stop : Stop) (before opened : ℕ → Bool) → plan_valid plan → (old mid new : Option Told) → Goes (ReadsPlan c plan before opened) old mid
+    → ((k : Checks) → IsCheckOf plan.dag plan.settings k → Goes (CheckStops k stop) mid new) → Goes (CheckHalts c (Stopped stop)) old new
+goes_check_stops c plan stop before opened valid =
+    goes_of_all c plan (λ k. CheckStops k stop) (CheckHalts c (Stopped stop)) before opened valid
+    (λ a b d r h s. halts_check c stop a b d r.calls r.trace r.kept r.written h s)
+
+-- the job of files that were checked is not refused
+pub goes_check_known : (c : JobCommand) (plan : Plan) (stop : Stop) (before opened : ℕ → Bool) → plan_valid plan → (old mid new : Option Told) → Goes (ReadsPlan c plan before opened) old mid
+    → ((k : Checks) → IsCheckOf plan.dag plan.settings k → Goes (CheckStops k stop) mid new) → Goes (λ a b. IsKnown (text_refusal c.options (a.content c.job)) (Stopped stop)) old new
+goes_check_known c plan stop before opened valid =
+    goes_of_all c plan (λ k. CheckStops k stop) (λ a b. IsKnown (text_refusal c.options (a.content c.job)) (Stopped stop)) before opened valid
+    (λ a b d r h s. none_known (text_refusal c.options (a.content c.job)) (Stopped stop) (ap (text_refusal c.options) h.content_is ∙ ap (job_refusal c.options) h.job_is ∙ ap (option_map refusal.Plan) h.valid))
+
+-- the reading of the job file ended early
+halts_read : (c : JobCommand) (halt : Halt) (a b : Told) → IsNoBadHalt halt → ReadHalts c halt a b → CheckHalts c halt a b
+halts_read c (Refused why) a b never h = h
+halts_read c (Stopped (BadLine part line why)) a b never h = absurd never
+halts_read c (Stopped (Outside call spot)) a b never h = h.told (check_name c a.content) refl
+halts_read c (Stopped NoMemory) a b never h = tt
+
+pub goes_halts_read : (c : JobCommand) (halt : Halt) (old new : Option Told) → IsNoBadHalt halt → Goes (ReadHalts c halt) old new → Goes (CheckHalts c halt) old new
+goes_halts_read c halt old new never = goes_weaker (ReadHalts c halt) (CheckHalts c halt) (λ a b h. halts_read c halt a b never h) old new
+
+-- which file is not there
+pub lacks_job : (c : JobCommand) (told : Option Told) → LacksFile c.job told → LacksFiles c told
+lacks_job c None h = tt
+lacks_job c (Some t) h = inl h
+
+pub lacks_data : (c : JobCommand) (plan : Plan) (before opened : ℕ → Bool) (old mid : Option Told) → Goes (ReadsPlan c plan before opened) old mid → LacksSome (data_files plan.dag) mid → LacksFiles c old
+lacks_data c plan before opened None mid r h = tt
+lacks_data c plan before opened (Some a) None r h = absurd r
+lacks_data c plan before opened (Some a) (Some b) r h =
+    let files : files_of (a.content c.job) ≡ data_files plan.dag = ap files_of r.content_is ∙ ap files_in r.job_is ∙ ap data_files (sym r.dag) in
+    inr (subst (λ (fs : List DataFile). Any (λ (f : DataFile). a.content (file_name f) ≡ None) fs) (sym files)
+    (subst (λ (ct : List ℕ → Option (List ℕ)). Any (λ (f : DataFile). ct (file_name f) ≡ None) (data_files plan.dag)) r.kept h))

@@ -1,0 +1,38 @@
+-- Steps of an outside that tells all, one after another. Each loop over an outside keeps a fact `Goes R old now`, and
+-- these lemmas carry it over one call more.
+use Rattle.std.specs.Prelude.{Option, Some, None, Result, Ok, Err, IfOk, IfErr}
+use Rattle.jet_file.specs.Outside.{Told, Goes}
+
+-- two steps are one
+pub goes_then : (R S T : Told → Told → Type 0) → ((a b c : Told) → R a b → S b c → T a c)
+    → (old now next : Option Told) → Goes R old now → Goes S now next → Goes T old next
+goes_then R S T joins None now next r s = tt
+goes_then R S T joins (Some old) None next r s = absurd r
+goes_then R S T joins (Some old) (Some now) None r s = absurd s
+goes_then R S T joins (Some old) (Some now) (Some next) r s = joins old now next r s
+
+-- a step is a weaker one
+pub goes_weaker : (R S : Told → Told → Type 0) → ((a b : Told) → R a b → S a b) → (old now : Option Told) → Goes R old now → Goes S old now
+goes_weaker R S weaker None now r = tt
+goes_weaker R S weaker (Some old) None r = absurd r
+goes_weaker R S weaker (Some old) (Some now) r = weaker old now r
+
+-- two facts of one step are one
+pub goes_both : (R S T : Told → Told → Type 0) → ((a b : Told) → R a b → S a b → T a b) → (old now : Option Told) → Goes R old now → Goes S old now → Goes T old now
+goes_both R S T joins None now r s = tt
+goes_both R S T joins (Some old) None r s = absurd r
+goes_both R S T joins (Some old) (Some now) r s = joins old now r s
+
+-- no step
+pub goes_same : (R : Told → Told → Type 0) → ((a : Told) → R a a) → (old : Option Told) → Goes R old old
+goes_same R same None = tt
+goes_same R same (Some old) = same old
+
+-- what the value of an answer says is weaker, and what its error says
+pub if_ok_weaker : {V E : Type 0} (r : Result V E) (P Q : V → Type 0) → ((v : V) → P v → Q v) → IfOk r P → IfOk r Q
+if_ok_weaker (Ok v) P Q f h = f v h
+if_ok_weaker (Err e) P Q f h = tt
+
+pub if_err_weaker : {V E : Type 0} (r : Result V E) (P Q : E → Type 0) → ((e : E) → P e → Q e) → IfErr r P → IfErr r Q
+if_err_weaker (Ok v) P Q f h = tt
+if_err_weaker (Err e) P Q f h = f e h
