@@ -10,5 +10,6 @@ is_done (item.Side s) = false
 is_done (item.Frame f) = false
 is_done (item.Row r) = false
 is_done (item.Late l) = false
+is_done item.Idle = false
 is_done (item.Mark m) = false
 is_done item.Done = true

@@ -11,6 +11,7 @@ as_event (item.Side s) = []
 as_event (item.Frame f) = []
 as_event (item.Row r) = []
 as_event (item.Late l) = []
+as_event item.Idle = []
 as_event (item.Mark m) = []
 as_event item.Done = []
 
@@ -20,6 +21,7 @@ as_side (item.Side s) = s ∷ []
 as_side (item.Frame f) = []
 as_side (item.Row r) = []
 as_side (item.Late l) = []
+as_side item.Idle = []
 as_side (item.Mark m) = []
 as_side item.Done = []
 
@@ -29,6 +31,7 @@ as_frame (item.Side s) = []
 as_frame (item.Frame f) = f ∷ []
 as_frame (item.Row r) = []
 as_frame (item.Late l) = []
+as_frame item.Idle = []
 as_frame (item.Mark m) = []
 as_frame item.Done = []
 
@@ -38,6 +41,7 @@ as_row (item.Side s) = []
 as_row (item.Frame f) = []
 as_row (item.Row r) = r ∷ []
 as_row (item.Late l) = []
+as_row item.Idle = []
 as_row (item.Mark m) = []
 as_row item.Done = []
 
@@ -47,6 +51,7 @@ as_late (item.Side s) = []
 as_late (item.Frame f) = []
 as_late (item.Row r) = []
 as_late (item.Late l) = l ∷ []
+as_late item.Idle = []
 as_late (item.Mark m) = []
 as_late item.Done = []
 
@@ -56,6 +61,7 @@ as_mark (item.Side s) = []
 as_mark (item.Frame f) = []
 as_mark (item.Row r) = []
 as_mark (item.Late l) = []
+as_mark item.Idle = []
 as_mark (item.Mark m) = m ∷ []
 as_mark item.Done = []
 
@@ -66,8 +72,20 @@ as_other (item.Side s) = item.Side s ∷ []
 as_other (item.Frame f) = item.Frame f ∷ []
 as_other (item.Row r) = item.Row r ∷ []
 as_other (item.Late l) = item.Late l ∷ []
+as_other item.Idle = item.Idle ∷ []
 as_other (item.Mark m) = []
 as_other item.Done = []
+
+-- data alone: neither a mark nor the end
+abbrev pub as_data : Item → List Item
+as_data (item.Event e) = item.Event e ∷ []
+as_data (item.Side s) = item.Side s ∷ []
+as_data (item.Frame f) = item.Frame f ∷ []
+as_data (item.Row r) = item.Row r ∷ []
+as_data (item.Late l) = item.Late l ∷ []
+as_data item.Idle = item.Idle ∷ []
+as_data (item.Mark m) = []
+as_data item.Done = []
 
 abbrev pub events_of : List Item → List EventValue
 events_of xs = flat_map as_event xs
@@ -83,6 +101,9 @@ rows_of xs = flat_map as_row xs
 
 abbrev pub lates_of : List Item → List LateValue
 lates_of xs = flat_map as_late xs
+
+abbrev pub data_of : List Item → List Item
+data_of xs = flat_map as_data xs
 
 -- the data but the events
 abbrev pub others_of : List Item → List Item

@@ -20,6 +20,7 @@ SoundBelow behind w (item.Side s) = Unit {0}
 SoundBelow behind w (item.Frame f) = Unit {0}
 SoundBelow behind w (item.Row r) = Unit {0}
 SoundBelow behind w (item.Late l) = Unit {0}
+SoundBelow behind w item.Idle = Unit {0}
 SoundBelow behind w (item.Mark v) = Unit {0}
 SoundBelow behind w item.Done = Unit {0}
 
@@ -30,6 +31,7 @@ SoundAfter behind (item.Side s) y = Unit {0}
 SoundAfter behind (item.Frame f) y = Unit {0}
 SoundAfter behind (item.Row r) y = Unit {0}
 SoundAfter behind (item.Late l) y = Unit {0}
+SoundAfter behind item.Idle y = Unit {0}
 SoundAfter behind item.Done y = Unit {0}
 
 -- a late item names an event that is behind
@@ -39,6 +41,7 @@ LateIsBehind behind (item.Side s) = Unit {0}
 LateIsBehind behind (item.Frame f) = Unit {0}
 LateIsBehind behind (item.Row r) = Unit {0}
 LateIsBehind behind (item.Late l) = behind l.event.part l.event.line ≡ true
+LateIsBehind behind item.Idle = Unit {0}
 LateIsBehind behind (item.Mark m) = Unit {0}
 LateIsBehind behind item.Done = Unit {0}
 
@@ -54,6 +57,7 @@ IsAbove w (item.Side s) = Unit {0}
 IsAbove w (item.Frame f) = w <ℤ f.end
 IsAbove w (item.Row r) = w <ℤ r.end
 IsAbove w (item.Late l) = Unit {0}
+IsAbove w item.Idle = Unit {0}
 IsAbove w (item.Mark v) = w <ℤ v
 IsAbove w item.Done = Unit {0}
 
@@ -65,6 +69,7 @@ ClosedAfter (item.Side s) y = Unit {0}
 ClosedAfter (item.Frame f) y = Unit {0}
 ClosedAfter (item.Row r) y = Unit {0}
 ClosedAfter (item.Late l) y = Unit {0}
+ClosedAfter item.Idle y = Unit {0}
 ClosedAfter item.Done y = ⊥
 
 -- each frame and row after a mark ends above it, the marks rise, and nothing follows the end

@@ -4,16 +4,25 @@ ghost use Rattle.jet_items.specs.Done.{is_done};
 
 use crate::{Event, Frame, Late, Mark, Row, Side};
 
-/// One item of a queue. `Done` ends the queue.
+/// One item of a queue. All but `Mark` and `Done` are data.
 #[derive(Clone, Copy)]
 pub enum Item {
+    /// A line of a source file, or what a vertex made of it.
     Event(Event),
+    /// A line of a side file.
     Side(Side),
+    /// What a frame vertex knows of a key's events in one slide.
     Frame(Frame),
+    /// What a window holds of a key.
     Row(Row),
+    /// An event that came after its window's mark.
     Late(Late),
+    /// The watermark has come so far.
     Mark(Mark),
+    /// Nothing follows in this queue.
     Done,
+    /// The queue takes no part in the least watermark until its next event.
+    Idle,
 }
 
 impl Item {
