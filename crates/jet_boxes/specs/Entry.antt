@@ -30,6 +30,7 @@ IsData (item.Side s) = Unit {0}
 IsData (item.Frame f) = Unit {0}
 IsData (item.Row r) = Unit {0}
 IsData (item.Late l) = Unit {0}
+IsData item.Idle = Unit {0}
 IsData (item.Mark m) = ⊥
 IsData item.Done = ⊥
 
@@ -40,6 +41,7 @@ NotDone (item.Side s) = Unit {0}
 NotDone (item.Frame f) = Unit {0}
 NotDone (item.Row r) = Unit {0}
 NotDone (item.Late l) = Unit {0}
+NotDone item.Idle = Unit {0}
 NotDone (item.Mark m) = Unit {0}
 NotDone item.Done = ⊥
 
@@ -66,3 +68,7 @@ MayCome takes taken Finish = Each NotFinish taken
 -- each entry may come after those before it
 abbrev pub MayAll : (Port → ℕ → Type 0) → List Entry → Type 0
 MayAll takes taken = (front : List Entry) (entry : Entry) (rest : List Entry) → taken ≡ front ++ entry ∷ rest → MayCome takes front entry
+
+-- it takes from every queue of every port
+abbrev pub AnyQueue : Port → ℕ → Type 0
+AnyQueue port queue = Unit {0}

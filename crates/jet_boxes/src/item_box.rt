@@ -34,7 +34,7 @@ impl Model for ItemBox {
 }
 
 impl ItemBox {
-    /// An empty box for `room` items.
+    /// An empty box for `room` items, one at least: a box without room would refuse every item.
     pub fn new(alloc: Global, room: u32) -> Result<ItemBox, NoMemory>
         requires { 1 ≤ room }
         ensures { IfOk result (λ b. b ≡ record { room = room; items = [] }) }

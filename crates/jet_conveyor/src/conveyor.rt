@@ -6,10 +6,12 @@ use jet_items::{Item, NoMemory};
 use jet_ring::{Rx, Tx, refresh};
 use std::alloc::Global;
 
-/// What a poll gave: an item and the number of its queue, or nothing.
+/// What a poll gave.
 #[derive(Clone, Copy)]
 pub enum Polled {
+    /// The number of a queue, and the item that was taken from it.
     Taken(u32, Item),
+    /// No item: no queue that was asked and is not done had a known one.
     Nothing,
 }
 
@@ -32,7 +34,7 @@ impl Conveyor {
     ghost use Rattle.jet_conveyor.specs.Conveyor.{view, received_at, known_at, is_done_at, IsNew, TookFrom, NoneKnown, InTurn, Refreshed, SeesMore, IsClosed};
     ghost use Rattle.jet_conveyor.specs.Polled.{IfTaken, OnNothing};
 
-    /// A conveyor over these queues, none of them done.
+    /// A conveyor over these queues, none of them done: fewer than 2^32, since a queue's number is a `u32`.
     pub fn new(alloc: Global, queues: Vec<Rx<Item>>) -> Result<Conveyor, NoMemory>
         requires { vec_len queues < 2 ^ 32 }
         ensures new { IfOk result (λ c. IsNew (view c) queues.items) }

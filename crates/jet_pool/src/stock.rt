@@ -28,7 +28,7 @@ impl Model for Stock {
 }
 
 impl Stock {
-    /// A stock of `n` empty buffers with room for `bytes` bytes each.
+    /// A stock of `n` empty buffers, one at least, with room for `bytes` bytes each, one at least.
     pub fn new(alloc: Global, n: u32, bytes: u32) -> Result<Stock, NoMemory>
         requires some { 1 ≤ n }
         requires room { 1 ≤ bytes }

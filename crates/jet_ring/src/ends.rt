@@ -90,7 +90,8 @@ impl<T> Rx<T> {
         Rx { consumer }
     }
 
-    /// Takes the oldest item. Where none is known the receiver looks once at the other end, and may find one.
+    /// Takes the oldest item. Nothing comes only where no item is known. Then an item that was sent since the last
+    /// meeting may come, or none: that it is found before the next meeting is not promised.
     pub fn take(&mut self) -> Option<T>
         ensures ring { rx_ring self.new ≡ rx_ring self.old }
         ensures taken { IfSome result (λ x. received self.new ≡ received self.old ++ x ∷ []) }

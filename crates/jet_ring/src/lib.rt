@@ -16,7 +16,8 @@ use jet_items::NoMemory;
 use rtrb::RingBuffer;
 use std::alloc::Global;
 
-/// A ring with `cap` slots. This is the only call of the crate that takes memory.
+/// A ring with `cap` slots, 2 to 65536. With one slot no item would fit behind a mark before the next meeting; and no
+/// job takes the memory of more than 65536 slots for one ring. This is the only call of the crate that takes memory.
 pub fn ring<T: Send + Drop>(alloc: Global, cap: usize) -> Result<(Tx<T>, Rx<T>), NoMemory>
     requires { (2 ≤ cap) × (cap ≤ 65536) }
     ensures pair { IfOk result (λ r. IsPair r.0 r.1) }
