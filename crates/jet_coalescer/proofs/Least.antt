@@ -1,17 +1,17 @@
 -- The least mark, found queue by queue.
-use Rattle.std.proofs.Common.{◌≡◌, ℕ, suc, ◌<◌, ◌≤◌, Bool, true, false, cond, ℤ, List, [], ◌∷◌, length, drop, drop-cons, slice_index_or, Option, Some, None, refl, ap, sym, ◌∙◌}
+use Rattle.std.proofs.Common.{◌≡◌, ℕ, suc, ◌<◌, ◌≤◌, Bool, true, false, not, ◌||◌, cond, ℤ, List, [], ◌∷◌, length, drop, drop-cons, slice_index_or, Option, Some, None, refl, ap, sym, ◌∙◌}
 use Rattle.std.proofs.lemmas.List.{drop_all}
 use Rattle.std.specs.Prelude.{is_some}
 use Rattle.std.specs.List.{reduce, fold, list_all, filter_map}
 use Rattle.std.specs.Option.{option_and_then}
 use Rattle.std.specs.Int.{int_min}
 use Rattle.jet_coalescer.specs.declared.queue.Queue.{Queue}
-use Rattle.jet_coalescer.specs.Queues.{least_with, open_marks, low_of}
+use Rattle.jet_coalescer.specs.Queues.{counts, least_with, open_marks, present}
 
 -- the least of a mark, if there is one, and those of the queues that are left
 abbrev pub low_from : Option ℤ → List Queue → Option ℤ
 low_from so_far [] = so_far
-low_from so_far (q ∷ qs) = cond q.done (low_from so_far qs) (option_and_then (λ t. low_from (least_with so_far t) qs) q.mark)
+low_from so_far (q ∷ qs) = cond (counts q) (option_and_then (λ t. low_from (least_with so_far t) qs) q.mark) (low_from so_far qs)
 
 -- the same of marks
 abbrev reduce_from : Option ℤ → List ℤ → Option ℤ
@@ -28,10 +28,11 @@ reduce_from-next (Some s) t ts = refl
 abbrev Finds : List Queue → Type 0
 Finds qs = (so_far : Option ℤ) → low_from so_far qs ≡ least_from so_far (open_marks qs)
 
-found_next : (so_far : Option ℤ) (done : Bool) (mark : Option ℤ) (qs : List Queue) → Finds qs → low_from so_far (record { mark = mark; done = done } ∷ qs) ≡ least_from so_far (open_marks (record { mark = mark; done = done } ∷ qs))
-found_next so_far true mark qs rest = rest so_far
-found_next so_far false None qs rest = refl
-found_next so_far false (Some t) qs rest = rw (rest (least_with so_far t), reduce_from-next so_far t (filter_map (λ mark. mark) (open_marks qs)))
+found_next : (so_far : Option ℤ) (done idle : Bool) (mark : Option ℤ) (qs : List Queue) → Finds qs → low_from so_far (record { mark = mark; done = done; idle = idle } ∷ qs) ≡ least_from so_far (open_marks (record { mark = mark; done = done; idle = idle } ∷ qs))
+found_next so_far true idle mark qs rest = rest so_far
+found_next so_far false true mark qs rest = rest so_far
+found_next so_far false false None qs rest = refl
+found_next so_far false false (Some t) qs rest = rw (rest (least_with so_far t), reduce_from-next so_far t (filter_map (λ mark. mark) (open_marks qs)))
 
 found : (qs : List Queue) → Finds qs
 found [] = λ so_far. nothing so_far
@@ -39,24 +40,25 @@ found [] = λ so_far. nothing so_far
     nothing : (so_far : Option ℤ) → low_from so_far [] ≡ least_from so_far (open_marks [])
     nothing None = refl
     nothing (Some t) = refl
-found (q ∷ qs) = λ so_far. found_next so_far q.done q.mark qs (found qs)
+found (q ∷ qs) = λ so_far. found_next so_far q.done q.idle q.mark qs (found qs)
 
-pub low_from-all : (qs : List Queue) → low_from None qs ≡ low_of qs
+pub low_from-all : (qs : List Queue) → low_from None qs ≡ present qs
 low_from-all qs = found qs None
 
 -- all queues were seen
-pub found_all : (so_far : Option ℤ) (qs : List Queue) (i : ℕ) → length qs ≤ i → low_from None qs ≡ low_from so_far (drop i qs) → so_far ≡ low_of qs
+pub found_all : (so_far : Option ℤ) (qs : List Queue) (i : ℕ) → length qs ≤ i → low_from None qs ≡ low_from so_far (drop i qs) → so_far ≡ present qs
 found_all so_far qs i over reached =
     let nothing_left : low_from so_far (drop i qs) ≡ so_far = ap (λ rest. low_from so_far rest) (drop_all i qs over) in
     sym nothing_left ∙ sym reached ∙ low_from-all qs
 
-stops : (so_far : Option ℤ) (done : Bool) (mark : Option ℤ) (qs : List Queue) → done ≡ false → mark ≡ None → low_from so_far (record { mark = mark; done = done } ∷ qs) ≡ None
-stops so_far true mark qs is_open no_mark = cc
-stops so_far false None qs is_open no_mark = refl
-stops so_far false (Some t) qs is_open no_mark = cc
+stops : (so_far : Option ℤ) (done idle : Bool) (mark : Option ℤ) (qs : List Queue) → not (done || idle) ≡ true → mark ≡ None → low_from so_far (record { mark = mark; done = done; idle = idle } ∷ qs) ≡ None
+stops so_far true idle mark qs counted no_mark = cc
+stops so_far false true mark qs counted no_mark = cc
+stops so_far false false None qs counted no_mark = refl
+stops so_far false false (Some t) qs counted no_mark = cc
 
--- a queue that is not done has no mark
-pub found_none : (so_far : Option ℤ) (qs : List Queue) (i : ℕ) (q : Queue) → i < length qs → q ≡ slice_index_or qs i q → q.done ≡ false → q.mark ≡ None → low_from None qs ≡ low_from so_far (drop i qs) → None ≡ low_of qs
-found_none so_far qs i q inside is is_open no_mark reached =
+-- a queue that counts has no mark
+pub found_none : (so_far : Option ℤ) (qs : List Queue) (i : ℕ) (q : Queue) → i < length qs → q ≡ slice_index_or qs i q → counts q ≡ true → q.mark ≡ None → low_from None qs ≡ low_from so_far (drop i qs) → None ≡ present qs
+found_none so_far qs i q inside is counted no_mark reached =
     let here : drop i qs ≡ q ∷ drop (suc i) qs = drop-cons qs i q inside ∙ ap (λ p. p ∷ drop (suc i) qs) (sym is) in
-    sym (stops so_far q.done q.mark (drop (suc i) qs) is_open no_mark) ∙ ap (λ rest. low_from so_far rest) (sym here) ∙ sym reached ∙ low_from-all qs
+    sym (stops so_far q.done q.idle q.mark (drop (suc i) qs) counted no_mark) ∙ ap (λ rest. low_from so_far rest) (sym here) ∙ sym reached ∙ low_from-all qs

@@ -1,3 +1,4 @@
 pub mod Least
 pub mod Told
 pub mod Bound
+pub mod Rising

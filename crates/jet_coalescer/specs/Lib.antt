@@ -1,2 +1,4 @@
 pub mod Low
+pub mod Notes
 pub mod Queues
+pub mod View

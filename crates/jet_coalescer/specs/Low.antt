@@ -1,10 +1,11 @@
--- The watermark of several queues, of all that came from each.
+-- The watermark of several queues of which none is ever idle, of all that came from each: in what order the queues came does not count.
 use Rattle.std.specs.Prelude.{◌≡◌, ℕ, Bool, true, false, not, if◌then◌else◌, ℤ, int_lt, List, [], ◌∷◌, ◌++◌, map, filter, Option, Some, None, is_some, slice_set, slice_index_or}
 use Rattle.std.specs.List.{reduce, list_all, filter_map}
 use Rattle.std.specs.Int.{int_min, int_max}
 use Rattle.jet_coalescer.specs.declared.change.Change.{Change}
 use Rattle.jet_coalescer.specs.declared.change.Change.TheVariants as change
 use Rattle.jet_coalescer.specs.declared.queue.Queue.{Queue}
+use Rattle.jet_coalescer.specs.View.{View}
 
 -- what came from one queue: its marks, in order, and whether its Done
 pub record History : Type 0 where
@@ -54,9 +55,12 @@ raised (Some t) = change.Raised t
 abbrev pub change_of : Bool → Option ℤ → Option ℤ → Change
 change_of none_left before after = if none_left then change.AllDone else raised (risen before after)
 
--- a coalescer knows of each queue the greatest of its marks, and whether its Done came
+-- what is known of a queue from which this came: the greatest of its marks, and whether its Done
 abbrev pub known : History → Queue
-known h = record { mark = reduce int_max h.marks; done = h.done }
+known h = record { mark = reduce int_max h.marks; done = h.done; idle = false }
 
-abbrev pub HasHeard : List Queue → List History → Type 0
-HasHeard queues told = queues ≡ map known told
+-- This came from the queues of a coalescer, and no idle note of any. While a queue is left, the watermark is that of
+-- what came from each.
+pub record HasHeard (c : View) (told : List History) : Type 0 where
+  pub queues_are : c.queues ≡ map known told
+  pub low_is : all_done told ≡ false → c.low ≡ low told

@@ -1,11 +1,14 @@
-// The coalescer. It keeps the greatest mark of each queue, and finds the least of them anew at each call: a job has
-// few queues at one vertex, and marks are rare beside data.
-ghost use Rattle.std.specs.Prelude.{◌≡◌, ◌<◌, ℕ, false, List, length, replicate, IfOk};
-ghost use Rattle.jet_coalescer.specs.Low.{History, unheard, HasHeard, with_mark, with_done, low, all_done, risen, change_of};
-ghost use Rattle.jet_coalescer.specs.Queues.{unknown, marked, ended, is_done_at, least_with, low_of, none_left, LowIsBound};
+// The coalescer. It keeps of each queue the greatest mark, and finds the least of them anew at each call: a job has few
+// queues at one vertex, and marks are rare beside data. Where that falls, since a queue woke up or its first mark is
+// still to come, the watermark stays.
+ghost use Rattle.std.specs.Prelude.{◌≡◌, ◌<◌, ℕ, ℤ, Some, None, true, false, List, [], ◌∷◌, ◌++◌, length, replicate, cond, IfOk};
+ghost use Rattle.jet_coalescer.specs.declared.change.Change.TheVariants as change;
+ghost use Rattle.jet_coalescer.specs.Low.{History, unheard, HasHeard, with_mark, with_done, low, all_done, risen, raised, change_of};
+ghost use Rattle.jet_coalescer.specs.Notes.{Note, Marked, Ended, Idled, Woken, low_after, IsTold};
+ghost use Rattle.jet_coalescer.specs.Queues.{unknown, greater, marked, ended, idled, woken, is_done_at, least_with, present, none_left, PresentIsLeast, RisesToLeast, HoldsNoneBack};
 
 use crate::change::Change;
-use crate::queue::{Queue, greater};
+use crate::queue::Queue;
 use jet_items::{Mark, NoMemory};
 use std::alloc::Global;
 use std::marker::Model;
@@ -14,100 +17,148 @@ use std::marker::Model;
 #[derive(Drop)]
 pub struct Coalescer {
     queues: Vec<Queue>,
+    low: Option<Mark>,
 }
 
 impl Model for Coalescer {
-    ghost use Rattle.std.specs.Prelude.{List};
-    ghost use Rattle.jet_coalescer.specs.declared.queue.Queue.{Queue};
+    ghost use Rattle.std.specs.Prelude.{◌≡◌};
+    ghost use Rattle.jet_coalescer.specs.Queues.{greater, present};
+    ghost use Rattle.jet_coalescer.specs.View.{View};
 
-    ghost Value = { List Queue };
+    ghost Value = { View };
 
-    ghost view = { λ c. c.queues.items };
+    ghost view = { λ c. record { queues = c.queues.items; low = c.low } };
+
+    ghost invariant = { λ c. c.low ≡ greater c.low (present c.queues.items) };
 }
 
 impl Coalescer {
-    /// A coalescer of `n` queues.
+    /// A coalescer of `n` queues, none of them idle.
     pub fn new(alloc: Global, n: u32) -> Result<Coalescer, NoMemory>
+        ensures told { IfOk result (λ c. IsTold c []) }
         ensures heard { IfOk result (λ c. HasHeard c (replicate n unheard)) }
-        ensures value { IfOk result (λ c. c ≡ replicate n unknown) }
+        ensures value { IfOk result (λ c. c ≡ record { queues = replicate n unknown; low = None }) }
     {
         let unknown = Queue {
             mark: None,
             done: false,
+            idle: false,
         };
         let mut queues = Vec::new(alloc);
         queues.resize(n as usize, unknown)?;
-        Ok(Coalescer { queues })
+        Ok(Coalescer { queues, low: None })
     }
 
-    /// Takes one more mark of a queue, and answers the new watermark where there was none or it rose.
+    /// Takes one more mark of a queue, which wakes the queue, and answers the new watermark where there was none or it
+    /// rose.
     pub fn observe(&mut self, queue: u32, mark: Mark) -> Option<Mark>
-        requires exists { queue < length self.old }
+        requires exists { queue < length self.old.queues }
         requires open { is_done_at self.old queue ≡ false }
+        ensures told { (told : List Note) → IsTold self.old told → IsTold self.new (told ++ Marked queue mark ∷ []) }
         ensures heard { (told : List History) → HasHeard self.old told → HasHeard self.new (with_mark told queue mark) }
         ensures risen { (told : List History) → HasHeard self.old told
             → result ≡ risen (low told) (low (with_mark told queue mark)) }
-        ensures value { self.new ≡ marked self.old queue mark }
-        ensures answer { result ≡ risen (low_of self.old) (low_of self.new) }
-        ensures bound { LowIsBound self.new }
+        ensures value { self.new.queues ≡ marked self.old.queues queue mark }
+        ensures low { self.new.low ≡ greater self.old.low (present self.new.queues) }
+        ensures answer { result ≡ risen self.old.low self.new.low }
+        ensures least { RisesToLeast self.old.low self.new }
+        ensures reaches { HoldsNoneBack self.new }
     {
-        let before = self.low();
-        self.hear(queue, mark);
-        rise(before, self.low())
+        self.queues[queue as usize].hear(mark);
+        raise(&self.queues, &mut self.low)
     }
 
-    /// Takes the Done of a queue.
-    pub fn done(&mut self, queue: u32) -> Change
-        requires exists { queue < length self.old }
+    /// Takes it that a queue is idle, so that the watermark waits for it no more, and answers the new watermark where
+    /// there was none or it rose.
+    pub fn idle(&mut self, queue: u32) -> Option<Mark>
+        requires exists { queue < length self.old.queues }
         requires open { is_done_at self.old queue ≡ false }
+        ensures told { (told : List Note) → IsTold self.old told → IsTold self.new (told ++ Idled queue ∷ []) }
+        ensures value { self.new.queues ≡ idled self.old.queues queue }
+        ensures low { self.new.low ≡ greater self.old.low (present self.new.queues) }
+        ensures answer { result ≡ risen self.old.low self.new.low }
+        ensures least { RisesToLeast self.old.low self.new }
+        ensures reaches { HoldsNoneBack self.new }
+    {
+        self.queues[queue as usize].idle = true;
+        raise(&self.queues, &mut self.low)
+    }
+
+    /// Takes it that a queue is idle no more, and answers the new watermark where there was none or it rose.
+    pub fn wake(&mut self, queue: u32) -> Option<Mark>
+        requires exists { queue < length self.old.queues }
+        requires open { is_done_at self.old queue ≡ false }
+        ensures told { (told : List Note) → IsTold self.old told → IsTold self.new (told ++ Woken queue ∷ []) }
+        ensures value { self.new.queues ≡ woken self.old.queues queue }
+        ensures low { self.new.low ≡ greater self.old.low (present self.new.queues) }
+        ensures answer { result ≡ risen self.old.low self.new.low }
+        ensures least { RisesToLeast self.old.low self.new }
+        ensures reaches { HoldsNoneBack self.new }
+    {
+        self.queues[queue as usize].idle = false;
+        raise(&self.queues, &mut self.low)
+    }
+
+    /// Takes the Done of a queue: from then on the watermark does not wait for it. Answers whether no queue is left,
+    /// and else the new watermark where there was none or it rose.
+    pub fn done(&mut self, queue: u32) -> Change
+        requires exists { queue < length self.old.queues }
+        requires open { is_done_at self.old queue ≡ false }
+        ensures told { (told : List Note) → IsTold self.old told → IsTold self.new (told ++ Ended queue ∷ []) }
         ensures heard { (told : List History) → HasHeard self.old told → HasHeard self.new (with_done told queue) }
         ensures change { (told : List History) → HasHeard self.old told
             → result ≡ change_of (all_done (with_done told queue)) (low told) (low (with_done told queue)) }
-        ensures value { self.new ≡ ended self.old queue }
-        ensures answer { result ≡ change_of (none_left self.new) (low_of self.old) (low_of self.new) }
-        ensures bound { LowIsBound self.new }
-    {
-        let before = self.low();
-        self.end(queue);
-        change(self.is_done(), before, self.low())
-    }
-
-    /// The least of the greatest marks of the queues that are not done. None where there is no such queue, or one of
-    /// them has no mark yet.
-    pub fn low(&self) -> Option<Mark>
-        ensures low { (told : List History) → HasHeard self.now told → result ≡ low told }
-        ensures value { result ≡ low_of self.now }
-        ensures bound { LowIsBound self.now }
-    {
-        let mut least = None;
-        for queue in &self.queues {
-            if !queue.done {
-                least = Some(lesser(least, queue.mark?));
-            }
-        }
-        least
-    }
-
-    fn hear(&mut self, queue: u32, mark: Mark)
-        requires { queue < length self.old }
-        ensures { self.new ≡ marked self.old queue mark }
-    {
-        let heard = &mut self.queues[queue as usize];
-        heard.mark = Some(greater(heard.mark, mark));
-    }
-
-    fn end(&mut self, queue: u32)
-        requires { queue < length self.old }
-        ensures { self.new ≡ ended self.old queue }
+        ensures value { self.new.queues ≡ ended self.old.queues queue }
+        ensures low { self.new.low ≡ greater self.old.low (present self.new.queues) }
+        ensures answer { result ≡ change_of (none_left self.new.queues) self.old.low self.new.low }
+        ensures least { RisesToLeast self.old.low self.new }
+        ensures reaches { HoldsNoneBack self.new }
     {
         self.queues[queue as usize].done = true;
+        let rose = raise(&self.queues, &mut self.low);
+        change(all_done(&self.queues), rose)
     }
 
-    fn is_done(&self) -> bool
-        ensures { result ≡ none_left self.now }
+    /// The watermark: the greatest that the least of the greatest marks of the queues that are neither done nor idle
+    /// has ever been. None where there never was such a queue, or one of them always was without a mark.
+    pub fn low(&self) -> Option<Mark>
+        ensures told { (told : List Note) → IsTold self.now told → result ≡ low_after (length self.now.queues) told }
+        ensures heard { (told : List History) → HasHeard self.now told → all_done told ≡ false → result ≡ low told }
+        ensures value { result ≡ self.now.low }
+        ensures bound { PresentIsLeast self.now.queues }
+        ensures reaches { HoldsNoneBack self.now }
     {
-        self.queues.iter().all(|queue| queue.done)
+        self.low
     }
+}
+
+// Makes the watermark the greater of it and the present value, and answers it where there was none or it rose.
+fn raise(queues: &[Queue], low: &mut Option<Mark>) -> Option<Mark>
+    ensures low { low.new ≡ greater low.old (present queues.now) }
+    ensures answer { result ≡ risen low.old low.new }
+{
+    let present = present(queues)?;
+    match *low {
+        Some(before) if present.t <= before.t => None,
+        _ => {
+            *low = Some(present);
+            Some(present)
+        }
+    }
+}
+
+// The least of the greatest marks of the queues that count. None where there is no such queue, or one of them has no
+// mark yet.
+fn present(queues: &[Queue]) -> Option<Mark>
+    ensures { result ≡ present queues.now }
+{
+    let mut least = None;
+    for queue in queues {
+        if queue.counts() {
+            least = Some(lesser(least, queue.mark?));
+        }
+    }
+    least
 }
 
 // The lesser of the least mark so far and one more.
@@ -120,22 +171,17 @@ fn lesser(least: Option<Mark>, t: Mark) -> Mark
     }
 }
 
-// The new watermark, where there was none or it rose.
-fn rise(before: Option<Mark>, after: Option<Mark>) -> Option<Mark>
-    ensures { result ≡ risen before after }
+fn all_done(queues: &[Queue]) -> bool
+    ensures { result ≡ none_left queues.now }
 {
-    match (before, after) {
-        (None, _) => after,
-        (Some(old), Some(new)) if old.t < new.t => after,
-        _ => None,
-    }
+    queues.iter().all(|queue| queue.done)
 }
 
 // What the end of a queue changed.
-fn change(all_done: bool, before: Option<Mark>, after: Option<Mark>) -> Change
-    ensures { result ≡ change_of all_done before after }
+fn change(all_done: bool, rose: Option<Mark>) -> Change
+    ensures { result ≡ cond all_done change.AllDone (raised rose) }
 {
-    match rise(before, after) {
+    match rose {
         _ if all_done => Change::AllDone,
         Some(mark) => Change::Raised(mark),
         None => Change::Unchanged,

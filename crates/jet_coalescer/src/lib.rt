@@ -1,8 +1,10 @@
-//! The watermark of several queues: the least of the greatest marks of the queues that are not done.
+//! The watermark of several queues: the least of the greatest marks of the queues that are neither done nor idle. It
+//! never falls: where that least mark does, as when an idle queue wakes up, the watermark stays until it is passed.
 //!
-//! Contracts see a coalescer as the list of its queues, each with its greatest mark and whether its Done came. What
-//! it answers is promised of all that it was told of each queue, a list of marks and whether Done came
-//! (`specs/Low.antt`).
+//! Contracts see a coalescer as its queues, each with its greatest mark and whether it is done or idle, and the
+//! watermark (`specs/View.antt`). What it answers is promised of one list, all that it was told in order: the marks,
+//! Dones, idle notes and wakes of its queues (`specs/Notes.antt`). Where no queue was ever idle and one is left, it is
+//! what came from each queue that counts, and not in what order the queues came (`specs/Low.antt`).
 #![tactic(auto)]
 
 mod change;

@@ -1,20 +1,30 @@
-use Rattle.std.proofs.Common.{Bool, ℤ, Option, ap, ◌∙◌}
-use Rattle.jet_coalescer.specs.Low.{HasHeard, with_done, low, all_done, change_of}
-use Rattle.jet_coalescer.proofs.Bound.{low_is_bound}
-use Rattle.jet_coalescer.proofs.Told.{heard_done, all_done-heard}
+use Rattle.std.proofs.Common.{rules, ap, ◌∙◌}
+use Rattle.jet_coalescer.specs.View.{View}
+use Rattle.jet_coalescer.specs.Queues.{with_queue_done}
+use Rattle.jet_coalescer.proofs.Bound.{holds_none_back, rises_to_least}
+use Rattle.jet_coalescer.proofs.Rising.{changes, told_done, heard_done, change_heard}
 use Rattle.jet_coalescer.proofs.coalescer.Coalescer.done.Goals as goal
 
+pub returns-clause-value : goal.returns-clause-value
+returns-clause-value c = changes (with_queue_done) c.args.self.now c.self.inside.queues.items c.args.queue c.index_mut.result.now c.requires.exists (ap (λ (v : View). v.queues) c.self.view_is) c.index_mut.ensures.value
+
+pub returns-clause-low : goal.returns-clause-low
+returns-clause-low c = search rules
+
+pub returns-clause-told : goal.returns-clause-told
+returns-clause-told c = λ told h. told_done c.args.self.now _ told c.args.queue c.requires.exists (returns-clause-value c) (returns-clause-low c) h
+
+pub returns-clause-answer : goal.returns-clause-answer
+returns-clause-answer c = search rules
+
 pub returns-clause-heard : goal.returns-clause-heard
-returns-clause-heard c = λ told heard. heard_done c.args.self.now c.end.new.self told c.args.queue heard c.end.ensures
+returns-clause-heard c = λ told h. heard_done c.args.self.now _ told c.args.queue c.requires.exists c.requires.open (returns-clause-value c) (returns-clause-low c) h
 
 pub returns-clause-change : goal.returns-clause-change
-returns-clause-change c = λ told heard.
-    let more = with_done told c.args.queue in
-    let heard_more : HasHeard c.end.new.self more = heard_done c.args.self.now c.end.new.self told c.args.queue heard c.end.ensures in
-    c.change.ensures
-    ∙ ap (λ (none_left : Bool). change_of none_left c.low-before.result c.low.result) (c.is_done.ensures ∙ all_done-heard c.end.new.self more heard_more)
-    ∙ ap (λ (before : Option ℤ). change_of (all_done more) before c.low.result) (c.low-before.ensures.low told heard)
-    ∙ ap (λ (after : Option ℤ). change_of (all_done more) (low told) after) (c.low.ensures.low more heard_more)
+returns-clause-change c = λ told h. returns-clause-answer c ∙ change_heard c.args.self.now _ told c.args.queue c.requires.exists c.requires.open (returns-clause-value c) (returns-clause-low c) h
 
-pub returns-clause-bound : goal.returns-clause-bound
-returns-clause-bound c = low_is_bound c.end.new.self
+pub returns-clause-least : goal.returns-clause-least
+returns-clause-least c = rises_to_least _ c.args.self.now.low (returns-clause-low c)
+
+pub returns-clause-reaches : goal.returns-clause-reaches
+returns-clause-reaches c = holds_none_back _ c.args.self.now.low (returns-clause-low c)

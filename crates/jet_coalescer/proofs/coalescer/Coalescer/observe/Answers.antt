@@ -1,19 +1,31 @@
-use Rattle.std.proofs.Common.{ℤ, Option, ap, ◌∙◌}
-use Rattle.jet_coalescer.specs.Low.{HasHeard, with_mark, low, risen}
-use Rattle.jet_coalescer.proofs.Bound.{low_is_bound}
-use Rattle.jet_coalescer.proofs.Told.{heard_mark}
+use Rattle.std.proofs.Common.{rules, ap, slice_set, ◌∙◌}
+use Rattle.jet_coalescer.specs.declared.queue.Queue.{Queue}
+use Rattle.jet_coalescer.specs.View.{View}
+use Rattle.jet_coalescer.specs.Queues.{with_queue_mark}
+use Rattle.jet_coalescer.proofs.Bound.{holds_none_back, rises_to_least}
+use Rattle.jet_coalescer.proofs.Rising.{changes, told_mark, heard_mark, risen_heard}
 use Rattle.jet_coalescer.proofs.coalescer.Coalescer.observe.Goals as goal
 
+pub returns-clause-value : goal.returns-clause-value
+returns-clause-value c = ap (λ (queue : Queue). slice_set c.self.inside.queues.items c.args.queue queue) c.hear.ensures ∙ changes (with_queue_mark c.args.mark) c.args.self.now c.self.inside.queues.items c.args.queue c.index_mut.result.now c.requires.exists (ap (λ (v : View). v.queues) c.self.view_is) c.index_mut.ensures.value
+
+pub returns-clause-low : goal.returns-clause-low
+returns-clause-low c = search rules
+
+pub returns-clause-told : goal.returns-clause-told
+returns-clause-told c = λ told h. told_mark c.args.self.now _ told c.args.queue c.args.mark c.requires.exists (returns-clause-value c) (returns-clause-low c) h
+
+pub returns-clause-answer : goal.returns-clause-answer
+returns-clause-answer c = search rules
+
 pub returns-clause-heard : goal.returns-clause-heard
-returns-clause-heard c = λ told heard. heard_mark c.args.self.now c.hear.new.self told c.args.queue c.args.mark heard c.hear.ensures
+returns-clause-heard c = λ told h. heard_mark c.args.self.now _ told c.args.queue c.args.mark c.requires.exists c.requires.open (returns-clause-value c) (returns-clause-low c) h
 
 pub returns-clause-risen : goal.returns-clause-risen
-returns-clause-risen c = λ told heard.
-    let more = with_mark told c.args.queue c.args.mark in
-    let heard_more : HasHeard c.hear.new.self more = heard_mark c.args.self.now c.hear.new.self told c.args.queue c.args.mark heard c.hear.ensures in
-    c.rise.ensures
-    ∙ ap (λ (before : Option ℤ). risen before c.low.result) (c.low-before.ensures.low told heard)
-    ∙ ap (λ (after : Option ℤ). risen (low told) after) (c.low.ensures.low more heard_more)
+returns-clause-risen c = λ told h. returns-clause-answer c ∙ risen_heard c.args.self.now _ told c.args.queue c.args.mark c.requires.exists c.requires.open (returns-clause-value c) (returns-clause-low c) h
 
-pub returns-clause-bound : goal.returns-clause-bound
-returns-clause-bound c = low_is_bound c.hear.new.self
+pub returns-clause-least : goal.returns-clause-least
+returns-clause-least c = rises_to_least _ c.args.self.now.low (returns-clause-low c)
+
+pub returns-clause-reaches : goal.returns-clause-reaches
+returns-clause-reaches c = holds_none_back _ c.args.self.now.low (returns-clause-low c)

@@ -1,0 +1,21 @@
+use Rattle.std.proofs.Common.{rules, true, ap}
+use Rattle.jet_coalescer.specs.View.{View}
+use Rattle.jet_coalescer.specs.Queues.{with_queue_idle}
+use Rattle.jet_coalescer.proofs.Bound.{holds_none_back, rises_to_least}
+use Rattle.jet_coalescer.proofs.Rising.{changes, told_idle}
+use Rattle.jet_coalescer.proofs.coalescer.Coalescer.idle.Goals as goal
+
+pub returns-clause-value : goal.returns-clause-value
+returns-clause-value c = changes (with_queue_idle true) c.args.self.now c.self.inside.queues.items c.args.queue c.index_mut.result.now c.requires.exists (ap (λ (v : View). v.queues) c.self.view_is) c.index_mut.ensures.value
+
+pub returns-clause-low : goal.returns-clause-low
+returns-clause-low c = search rules
+
+pub returns-clause-told : goal.returns-clause-told
+returns-clause-told c = λ told h. told_idle c.args.self.now _ told c.args.queue c.requires.exists (returns-clause-value c) (returns-clause-low c) h
+
+pub returns-clause-least : goal.returns-clause-least
+returns-clause-least c = rises_to_least _ c.args.self.now.low (returns-clause-low c)
+
+pub returns-clause-reaches : goal.returns-clause-reaches
+returns-clause-reaches c = holds_none_back _ c.args.self.now.low (returns-clause-low c)
