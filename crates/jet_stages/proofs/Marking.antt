@@ -11,7 +11,7 @@ use Rattle.std.proofs.lemmas.List.Elements.{filter-append}
 use Rattle.jet_items.specs.Values.{EventValue}
 use Rattle.jet_items.specs.Order.{Each}
 use Rattle.jet_items.specs.Grid.{IsFloor, floor_to}
-use Rattle.jet_items.specs.Marks.{mark_of, times_before, is_behind}
+use Rattle.jet_items.specs.Marks.{mark_of, times_before, is_behind, is_under}
 use Rattle.jet_items.proofs.GridLemmas.{floor_is}
 use Rattle.jet_stages.specs.Stamp.{StandsIn}
 
@@ -100,3 +100,19 @@ pub stands_behind : (lag grain : ℤ) (file events : List EventValue) (e : Event
 stands_behind lag grain file events e w step inside before h below =
     is_below e.ts w (mark_of lag grain (times_before e.line file)) below
     (all_reach lag grain w (map (λ d. d.ts) events) (mark_of lag grain (times_before e.line file)) (all_earlier lag grain file events e.line step inside before) h)
+
+-- the same of all events of a file
+among_reaches : (lag grain : ℤ) (file : List EventValue) (d : EventValue) → pos 1 ≤ℤ grain → StandsIn file d → Reaches (floor_to grain (d.ts -ℤ lag)) (mark_of lag grain (map (λ x. x.ts) file))
+among_reaches lag grain file d step stands =
+    subst (λ (ts : List ℤ). Reaches (floor_to grain (d.ts -ℤ lag)) (mark_of lag grain ts)) (sym (ap (map (λ (x : EventValue). x.ts)) stands.2 ∙ map-append (λ (x : EventValue). x.ts) stands.0 (d ∷ stands.1)))
+    (one_reaches lag grain d.ts (map (λ x. x.ts) stands.0) (map (λ x. x.ts) stands.1) step)
+
+all_among : (lag grain : ℤ) (file events : List EventValue) → pos 1 ≤ℤ grain → Each (StandsIn file) events → Each (λ x. Reaches (floor_to grain (x -ℤ lag)) (mark_of lag grain (map (λ y. y.ts) file))) (map (λ d. d.ts) events)
+all_among lag grain file [] step inside = tt
+all_among lag grain file (d ∷ events) step inside = (among_reaches lag grain file d step inside.0, all_among lag grain file events step inside.1)
+
+-- an event below the mark of some events of a file is below that of all of them
+pub stands_under : (lag grain : ℤ) (file events : List EventValue) (e : EventValue) (w : ℤ) → pos 1 ≤ℤ grain → Each (StandsIn file) events → Reaches w (mark_of lag grain (map (λ d. d.ts) events)) → e.ts <ℤ w → is_under lag grain file e ≡ true
+stands_under lag grain file events e w step inside h below =
+    is_below e.ts w (mark_of lag grain (map (λ d. d.ts) file)) below
+    (all_reach lag grain w (map (λ d. d.ts) events) (mark_of lag grain (map (λ d. d.ts) file)) (all_among lag grain file events step inside) h)

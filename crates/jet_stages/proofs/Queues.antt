@@ -1,198 +1,165 @@
--- What a stamp knows of its queues, and the least mark of them.
-use Rattle.std.proofs.Common.{◌≡◌, ℕ, zero, suc, ◌<◌, Bool, true, false, cond, ℤ, ◌≤ℤ◌, ◌<ℤ◌, List, [], ◌∷◌, ◌++◌, length, Option, Some, None, refl, ap, sym, ◌∙◌, subst, arith, rules}
-use Rattle.std.specs.Prelude.{int_lt, is_some, slice_get}
-use Rattle.std.specs.List.{reduce, fold, list_all, filter_map}
-use Rattle.std.specs.Int.{int_min}
+-- What a stamp knows of its queues, and how the watermark goes on.
+use Rattle.std.proofs.Common.{◌≡◌, ℕ, ◌<◌, Bool, true, false, not, ◌||◌, cond, ℤ, ◌≤ℤ◌, ◌<ℤ◌, List, [], ◌∷◌, ◌++◌, length, Option, Some, None, refl, ap, sym, ◌∙◌, subst, arith, rules, inl, inr}
+use Rattle.std.specs.Prelude.{int_lt, slice_get, ◌⊎◌}
+use Rattle.std.specs.Option.{IsSomeAnd}
 use Rattle.std.proofs.lemmas.Int.{ints}
 use Rattle.std.proofs.lemmas.Option.{slice_get_within}
-use Rattle.jet_items.specs.Order.{Each}
-use Rattle.jet_policy.specs.MarkerValue.{MarkerValue}
 use Rattle.jet_coalescer.specs.declared.queue.Queue.{Queue}
-use Rattle.jet_coalescer.specs.Low.{least, has_risen, risen}
-use Rattle.jet_coalescer.specs.Queues.{open_marks, low_of}
+use Rattle.jet_coalescer.specs.Low.{has_risen, risen}
+use Rattle.jet_coalescer.specs.Queues.{counts, greater, HoldsNoneBack, RisesToLeast, IsLeast}
+use Rattle.jet_coalescer.specs.View.{View}
 use Rattle.jet_boxes.specs.Entry.{Entry}
-use Rattle.jet_stages.specs.Stamp.{is_closed, queue_mark, IsReached, IsLeastMark}
-use Rattle.jet_stages.specs.Stamping.{Knows, Rises}
-use Rattle.jet_stages.proofs.Marking.{one_of, Reaches}
-use Rattle.jet_stages.proofs.Stamping.{both_ways, reached_next, least_is_one}
-
--- ---- the least mark of what a coalescer knows
+use Rattle.jet_stages.specs.Stamp.{is_closed, is_idle, IsLeastMark, WasLeast, IsLow}
+use Rattle.jet_stages.specs.Stamping.{Rises, LowIs, queue_known}
+use Rattle.jet_stages.proofs.Stamping.{least_is_one, low_is_one, was_before, was_now, was_either}
 
 some_is : {X : Type 0} {x y : X} → Some x ≡ Some y → x ≡ y
 some_is {X} {x} {y} h = cc
 
-fold_each : (P : ℤ → Type 0) (a : ℤ) (xs : List ℤ) → P a → Each P xs → P (fold int_min a xs)
-fold_each P a [] p h = p
-fold_each P a (x ∷ xs) p h = fold_each P (int_min a x) xs (one_of P (int_lt x a) x a h.0 p) h.1
+-- ---- the least mark of what a coalescer knows is that of what was taken
 
-reduce_each : (P : ℤ → Type 0) (xs : List ℤ) (t : ℤ) → Each P xs → reduce int_min xs ≡ Some t → P t
-reduce_each P [] t h is = cc
-reduce_each P (x ∷ xs) t h is = subst P (some_is is) (fold_each P x xs h.0 h.1)
+-- what a coalescer knows of the queues is what was taken
+abbrev pub AreKnown : ℕ → ℤ → ℤ → View → List Entry → Type 0
+AreKnown n lag grain queues taken = (q : ℕ) → q < n → slice_get queues.queues q ≡ Some (queue_known lag grain q taken)
 
-abbrev known_marks : List Queue → List ℤ
-known_marks qs = filter_map (λ mark. mark) (open_marks qs)
+counts_if : (done idle : Bool) → done ≡ false → idle ≡ false → not (done || idle) ≡ true
+counts_if true idle d i = cc
+counts_if false true d i = cc
+counts_if false false d i = refl
 
--- what holds of each mark of an open queue
-abbrev Holds : (ℤ → Type 0) → List Queue → Type 0
-Holds P qs = (k : ℕ) (m : ℤ) → slice_get qs k ≡ Some (record { mark = Some m; done = false }) → P m
+counted : (done idle : Bool) → not (done || idle) ≡ true → (done ≡ false) × (idle ≡ false)
+counted true idle h = cc
+counted false true h = cc
+counted false false h = (refl, refl)
 
-one_open : (P : ℤ → Type 0) (mark : Option ℤ) (done : Bool) (qs : List Queue) → Holds P (record { mark = mark; done = done } ∷ qs) → Each P (known_marks qs) → Each P (known_marks (record { mark = mark; done = done } ∷ qs))
-one_open P mark true qs f rest = rest
-one_open P None false qs f rest = rest
-one_open P (Some m) false qs f rest = (f 0 m refl, rest)
-
-each_open : (P : ℤ → Type 0) (qs : List Queue) → Holds P qs → Each P (known_marks qs)
-each_open P [] f = tt
-each_open P (q ∷ qs) f = one_open P q.mark q.done qs f (each_open P qs (λ k m is. f (suc k) m is))
-
-cond_some : (b : Bool) (o : Option ℤ) (t : ℤ) → cond b o None ≡ Some t → o ≡ Some t
-cond_some true o t h = h
-cond_some false o t h = cc
-
-low_holds : (P : ℤ → Type 0) (qs : List Queue) (t : ℤ) → Holds P qs → low_of qs ≡ Some t → P t
-low_holds P qs t f is = reduce_each P (known_marks qs) t (each_open P qs f) (cond_some (list_all is_some (open_marks qs)) (reduce int_min (known_marks qs)) t is)
-
--- each open queue has a mark
-abbrev AllKnown : List Queue → Type 0
-AllKnown qs = (k : ℕ) (q : Queue) → slice_get qs k ≡ Some q → q.done ≡ false → is_some q.mark ≡ true
-
-all_some : (mark : Option ℤ) (done : Bool) (qs : List Queue) → AllKnown (record { mark = mark; done = done } ∷ qs) → list_all is_some (open_marks qs) ≡ true → list_all is_some (open_marks (record { mark = mark; done = done } ∷ qs)) ≡ true
-all_some mark true qs f rest = rest
-all_some None false qs f rest = absurd (none_is (f 0 (record { mark = None; done = false }) refl refl))
-  where
-    none_is : false ≡ true → ⊥
-    none_is h = cc
-all_some (Some m) false qs f rest = rest
-
-all_known : (qs : List Queue) → AllKnown qs → list_all is_some (open_marks qs) ≡ true
-all_known [] f = refl
-all_known (q ∷ qs) f = all_some q.mark q.done qs f (all_known qs (λ k p is. f (suc k) p is))
-
-abbrev IsNil : List ℤ → Type 0
-IsNil [] = Unit {0}
-IsNil (x ∷ xs) = ⊥
-
-open_not_nil : (mark : Option ℤ) (done : Bool) (qs : List Queue) → done ≡ false → is_some mark ≡ true → IsNil (known_marks (record { mark = mark; done = done } ∷ qs)) → ⊥
-open_not_nil mark true qs going has h = cc
-open_not_nil None false qs going has h = cc
-open_not_nil (Some m) false qs going has h = h
-
-skip_nil : (mark : Option ℤ) (done : Bool) (qs : List Queue) → IsNil (known_marks (record { mark = mark; done = done } ∷ qs)) → IsNil (known_marks qs)
-skip_nil mark true qs h = h
-skip_nil None false qs h = h
-skip_nil (Some m) false qs h = absurd h
-
-not_nil : (qs : List Queue) (k : ℕ) (q : Queue) → slice_get qs k ≡ Some q → q.done ≡ false → is_some q.mark ≡ true → IsNil (known_marks qs) → ⊥
-not_nil [] k q is going has h = cc
-not_nil (p ∷ qs) zero q is going has h =
-    let same : q ≡ p = sym (some_is is) in
-    open_not_nil p.mark p.done qs (subst (λ (x : Queue). x.done ≡ false) same going) (subst (λ (x : Queue). is_some x.mark ≡ true) same has) h
-not_nil (p ∷ qs) (suc k) q is going has h = not_nil qs k q is going has (skip_nil p.mark p.done qs h)
-
-reduce_none : (xs : List ℤ) → reduce int_min xs ≡ None → IsNil xs
-reduce_none [] h = tt
-reduce_none (x ∷ xs) h = absurd (cc)
-
--- where a queue is open and each open queue has a mark, there is a least one
-pub low_not_none : (qs : List Queue) (k : ℕ) (q : Queue) → AllKnown qs → slice_get qs k ≡ Some q → q.done ≡ false → low_of qs ≡ None → ⊥
-low_not_none qs k q all is going none =
-    let whole : reduce int_min (known_marks qs) ≡ None = subst (λ (b : Bool). cond b (reduce int_min (known_marks qs)) None ≡ None) (all_known qs all) none in
-    not_nil qs k q is going (all k q is going) (reduce_none (known_marks qs) whole)
-
--- ---- the same of what is known
-
-reaches_some : (w : ℤ) (mark : Option ℤ) → Reaches w mark → is_some mark ≡ true
-reaches_some w None h = absurd h
-reaches_some w (Some m) h = refl
-
-at_queue : (lag grain : ℤ) (markers : List MarkerValue) (queues : List Queue) (taken : List Entry) → Knows lag grain markers queues taken → (k : ℕ) (q : Queue) → slice_get queues k ≡ Some q → (k < length markers) × (q ≡ record { mark = queue_mark lag grain k taken; done = is_closed k taken })
-at_queue lag grain markers queues taken knows k q is =
-    let inside : k < length markers = subst (λ (n : ℕ). k < n) knows.count (slice_get_within queues k q is) in
-    (inside, some_is (sym is ∙ knows.queues_are k inside))
-
-pub low_is_least : (lag grain : ℤ) (markers : List MarkerValue) (queues : List Queue) (taken : List Entry) (t : ℤ) → Knows lag grain markers queues taken → low_of queues ≡ Some t → IsLeastMark (length markers) lag grain taken t
-low_is_least lag grain markers queues taken t knows is =
-    low_holds (λ m. IsReached (length markers) lag grain taken t → m ≡ t → IsLeastMark (length markers) lag grain taken t) queues t
-    (λ k m here reached same. let at = at_queue lag grain markers queues taken knows k (record { mark = Some m; done = false }) here in
+least_known : (n : ℕ) (lag grain : ℤ) (queues : View) (taken : List Entry) (t : ℤ) → length queues.queues ≡ n → AreKnown n lag grain queues taken → IsLeast queues.queues t → IsLeastMark n lag grain taken t
+least_known n lag grain queues taken t count known h =
+    let inside : h.q < n = subst (λ (m : ℕ). h.q < m) count (slice_get_within queues.queues h.q h.queue h.is) in
+    let same : h.queue ≡ queue_known lag grain h.q taken = some_is (sym h.is ∙ known h.q inside) in
+    let open_awake = counted (is_closed h.q taken) (is_idle h.q taken) (subst (λ (p : Queue). counts p ≡ true) same h.counted) in
     record {
-      reached = reached;
-      queue = k;
-      exists = at.0;
-      going = sym (ap (λ (q : Queue). q.done) at.1);
-      has = sym (ap (λ (q : Queue). q.mark) at.1) ∙ ap Some same;
-    })
-    is (λ q inside going. knows.bound t q (record { mark = queue_mark lag grain q taken; done = is_closed q taken }) is (knows.queues_are q inside) going) refl
+      reached = λ q lt going awake. h.reached q (queue_known lag grain q taken) (known q lt) (counts_if (is_closed q taken) (is_idle q taken) going awake);
+      queue = h.q;
+      exists = inside;
+      going = open_awake.0;
+      awake = open_awake.1;
+      has = subst (λ (p : Queue). p.mark ≡ Some t) same h.has;
+    }
 
-pub least_is_low : (lag grain : ℤ) (markers : List MarkerValue) (queues : List Queue) (taken : List Entry) (w : ℤ) (k : ℕ) → Knows lag grain markers queues taken → IsReached (length markers) lag grain taken w → k < length markers → is_closed k taken ≡ false → low_of queues ≡ None → ⊥
-least_is_low lag grain markers queues taken w k knows reached inside going none =
-    low_not_none queues k (record { mark = queue_mark lag grain k taken; done = is_closed k taken })
-    (λ j q is is_open. let at = at_queue lag grain markers queues taken knows j q is in
-    subst (λ (x : Queue). is_some x.mark ≡ true) (sym at.1) (reaches_some w (queue_mark lag grain j taken) (reached j at.0 (sym (ap (λ (x : Queue). x.done) at.1) ∙ is_open))))
-    (knows.queues_are k inside) going none
+low_holds : (n : ℕ) (lag grain : ℤ) (queues : View) (taken : List Entry) (s : ℤ) → length queues.queues ≡ n → AreKnown n lag grain queues taken → HoldsNoneBack queues → IsLeastMark n lag grain taken s → IsSomeAnd queues.low (λ t. s ≤ℤ t)
+low_holds n lag grain queues taken s count known holds h =
+    holds s h.queue (queue_known lag grain h.queue taken)
+    (λ k p is counts_p.
+    let inside : k < n = subst (λ (m : ℕ). k < m) count (slice_get_within queues.queues k p is) in
+    let same : p ≡ queue_known lag grain k taken = some_is (sym is ∙ known k inside) in
+    let open_awake = counted (is_closed k taken) (is_idle k taken) (subst (λ (x : Queue). counts x ≡ true) same counts_p) in
+    subst (λ (x : Queue). IsSomeAnd x.mark (λ m. s ≤ℤ m)) (sym same) (h.reached k inside open_awake.0 open_awake.1))
+    (known h.queue h.exists) (counts_if (is_closed h.queue taken) (is_idle h.queue taken) h.going h.awake)
 
--- ---- how the least mark goes on
+-- ---- a watermark rises, or stays
 
-le_lt : (a b c : ℤ) → a ≤ℤ b → b <ℤ c → a <ℤ c
-le_lt a b c h k = omega (arith, ints, h, k)
+pub data Step (old new told : Option ℤ) : Type 0 where
+  Rose : (t : ℤ) → told ≡ Some t → new ≡ Some t → has_risen old t ≡ true → Step old new told
+  Stayed : told ≡ None → new ≡ old → Step old new told
+
+not_above : (s : ℤ) → int_lt s s ≡ false
+not_above s = grind (arith, ints, rules)
+
+same_step : (old : Option ℤ) → risen old old ≡ None
+same_step None = refl
+same_step (Some s) = ap (λ b. cond b (Some s) None) (not_above s)
+
+above_step : (s m : ℤ) (b : Bool) → int_lt m s ≡ b → (told : Option ℤ) → told ≡ risen (Some s) (Some (cond b s m)) → Step (Some s) (Some (cond b s m)) told
+above_step s m true is told h = Stayed (h ∙ same_step (Some s)) refl
+above_step s m false is told h = up (int_lt s m) refl
+  where
+    level : int_lt s m ≡ false → m ≡ s
+    level k = grind (arith, ints, rules, is, k)
+
+    up : (b : Bool) → int_lt s m ≡ b → Step (Some s) (Some m) told
+    up true k = Rose m (h ∙ ap (λ c. cond c (Some m) None) k) refl k
+    up false k = Stayed (h ∙ ap (λ c. cond c (Some m) None) k) (ap Some (level k))
+
+step_by : (old now told : Option ℤ) → told ≡ risen old (greater old now) → Step old (greater old now) told
+step_by old None told h = Stayed (h ∙ same_step old) refl
+step_by None (Some m) told h = Rose m h refl refl
+step_by (Some s) (Some m) told h = above_step s m (int_lt m s) refl told h
+
+pub step : (old new now told : Option ℤ) → new ≡ greater old now → told ≡ risen old new → Step old new told
+step old new now told is h = subst (λ (o : Option ℤ). Step old o told) (sym is) (step_by old now told (h ∙ ap (risen old) is))
 
 lt_is : (a b : ℤ) → int_lt a b ≡ true → a <ℤ b
 lt_is a b h = grind (arith, ints, rules, h)
 
-not_lt_is : (a b : ℤ) → int_lt a b ≡ false → b ≤ℤ a
-not_lt_is a b h = grind (arith, ints, rules, h)
+le_lt : (a b c : ℤ) → a ≤ℤ b → b <ℤ c → a <ℤ c
+le_lt a b c h k = omega (arith, ints, h, k)
 
--- the least mark is above all that was reached, where it is the first or rose
-above_reached : (lag grain : ℤ) (markers : List MarkerValue) (queues : List Queue) (taken : List Entry) (t : ℤ) (k : ℕ) (low : Option ℤ) → low_of queues ≡ low → has_risen low t ≡ true → Knows lag grain markers queues taken → k < length markers → is_closed k taken ≡ false → (w : ℤ) → IsReached (length markers) lag grain taken w → w <ℤ t
-above_reached lag grain markers queues taken t k None is rose knows inside going w reached = absurd (least_is_low lag grain markers queues taken w k knows reached inside going is)
-above_reached lag grain markers queues taken t k (Some l) is rose knows inside going w reached =
-    let at : IsLeastMark (length markers) lag grain taken l = low_is_least lag grain markers queues taken l knows is in
-    le_lt w l t (subst (Reaches w) at.has (reached at.queue at.exists at.going)) (lt_is l t rose)
+lt_le : (a b : ℤ) → a <ℤ b → a ≤ℤ b
+lt_le a b h = omega (arith, ints, h)
 
--- where the least mark of now did not rise, it was the least mark before
-stayed_least : (lag grain : ℤ) (markers : List MarkerValue) (queues : List Queue) (taken : List Entry) (entry : Entry) (s : ℤ) (low : Option ℤ) → low_of queues ≡ low → has_risen low s ≡ false → Knows lag grain markers queues taken → IsLeastMark (length markers) lag grain (taken ++ entry ∷ []) s → IsLeastMark (length markers) lag grain taken s
-stayed_least lag grain markers queues taken entry s None is not_risen knows least = absurd (cc)
-stayed_least lag grain markers queues taken entry s (Some l) is not_risen knows least =
-    let at : IsLeastMark (length markers) lag grain taken l = low_is_least lag grain markers queues taken l knows is in
-    let up : l ≤ℤ s = subst (Reaches l) least.has (reached_next (length markers) lag grain l taken entry knows.step at.reached least.queue least.exists least.going) in
-    subst (IsLeastMark (length markers) lag grain taken) (both_ways l s up (not_lt_is l s not_risen)) at
+at_most : (s t : ℤ) → s ≡ t → s ≤ℤ t
+at_most s t h = omega (arith, ints, h)
 
--- the least mark of the new state
-abbrev NewLeast : ℕ → ℤ → ℤ → List Entry → Option ℤ → Type 0
-NewLeast n lag grain after None = (t : ℤ) → IsLeastMark n lag grain after t → ⊥
-NewLeast n lag grain after (Some s) = IsLeastMark n lag grain after s
+-- a watermark that rises is above each least mark before
+above_all : (n : ℕ) (lag grain : ℤ) (taken : List Entry) (old : Option ℤ) (t : ℤ) → LowIs n lag grain taken old → has_risen old t ≡ true → (s : ℤ) → WasLeast n lag grain taken s → s <ℤ t
+above_all n lag grain taken None t low rose s was = absurd (low s was)
+above_all n lag grain taken (Some l) t low rose s was = le_lt s l t (low.greatest s was) (lt_is l t rose)
 
-new_least : (lag grain : ℤ) (markers : List MarkerValue) (queues : List Queue) (taken : List Entry) (low : Option ℤ) → low_of queues ≡ low → Knows lag grain markers queues taken → NewLeast (length markers) lag grain taken low
-new_least lag grain markers queues taken None is knows = λ t least. least_is_low lag grain markers queues taken t least.queue knows least.reached least.exists least.going is
-new_least lag grain markers queues taken (Some s) is knows = low_is_least lag grain markers queues taken s knows is
+-- after one entry more the least mark is the watermark that rose
+rose_low : (n : ℕ) (lag grain : ℤ) (taken : List Entry) (entry : Entry) (t : ℤ) → IsLeastMark n lag grain (taken ++ entry ∷ []) t → ((s : ℤ) → WasLeast n lag grain taken s → s <ℤ t) → IsLow n lag grain (taken ++ entry ∷ []) t
+rose_low n lag grain taken entry t least above =
+    record { was = was_now n lag grain (taken ++ entry ∷ []) t least; greatest = λ s was. by s (was_either n lag grain taken entry s was) }
+  where
+    by : (s : ℤ) → IsLeastMark n lag grain (taken ++ entry ∷ []) s ⊎ WasLeast n lag grain taken s → s ≤ℤ t
+    by s (inl now) = at_most s t (least_is_one n lag grain s t (taken ++ entry ∷ []) now least)
+    by s (inr was) = lt_le s t (above s was)
 
-rises_by : (lag grain : ℤ) (markers : List MarkerValue) (queues : List Queue) (taken : List Entry) (entry : Entry) (k : ℕ) (low' : Option ℤ) (b : Bool) (s : ℤ) → has_risen (low_of queues) s ≡ b → Knows lag grain markers queues taken → k < length markers → is_closed k taken ≡ false → IsLeastMark (length markers) lag grain (taken ++ entry ∷ []) s → Rises (length markers) lag grain taken (taken ++ entry ∷ []) (cond b (Some s) None)
-rises_by lag grain markers queues taken entry k low' true s is knows inside going least =
-    record { rose = (least, above_reached lag grain markers queues taken s k (low_of queues) refl is knows inside going); stayed = tt }
-rises_by lag grain markers queues taken entry k low' false s is knows inside going least =
-    record {
-      rose = tt;
-      stayed = λ t other. stayed_least lag grain markers queues taken entry t (low_of queues) refl (subst (λ (z : ℤ). has_risen (low_of queues) z ≡ false) (least_is_one (length markers) lag grain s t (taken ++ entry ∷ []) least other) is) knows other;
-    }
+-- the least mark of now is not above the watermark, which stayed
+abbrev Holds : ℕ → ℤ → ℤ → List Entry → Option ℤ → Type 0
+Holds n lag grain after low = (s : ℤ) → IsLeastMark n lag grain after s → IsSomeAnd low (λ t. s ≤ℤ t)
 
-rises_from : (lag grain : ℤ) (markers : List MarkerValue) (queues : List Queue) (taken : List Entry) (entry : Entry) (k : ℕ) (low' : Option ℤ) → NewLeast (length markers) lag grain (taken ++ entry ∷ []) low' → Knows lag grain markers queues taken → k < length markers → is_closed k taken ≡ false → Rises (length markers) lag grain taken (taken ++ entry ∷ []) (risen (low_of queues) low')
-rises_from lag grain markers queues taken entry k None new knows inside going = record { rose = tt; stayed = λ t least. absurd (new t least) }
-rises_from lag grain markers queues taken entry k (Some s) new knows inside going = rises_by lag grain markers queues taken entry k (Some s) (has_risen (low_of queues) s) s refl knows inside going new
+stayed_low : (n : ℕ) (lag grain : ℤ) (taken : List Entry) (entry : Entry) (low : Option ℤ) → LowIs n lag grain taken low → Holds n lag grain (taken ++ entry ∷ []) low → LowIs n lag grain (taken ++ entry ∷ []) low
+stayed_low n lag grain taken entry None none holds = λ t was. by t (was_either n lag grain taken entry t was)
+  where
+    by : (t : ℤ) → IsLeastMark n lag grain (taken ++ entry ∷ []) t ⊎ WasLeast n lag grain taken t → ⊥
+    by t (inl now) = holds t now
+    by t (inr was) = none t was
+stayed_low n lag grain taken entry (Some l) low holds =
+    record { was = was_before n lag grain taken entry l low.was; greatest = λ s was. by s (was_either n lag grain taken entry s was) }
+  where
+    by : (s : ℤ) → IsLeastMark n lag grain (taken ++ entry ∷ []) s ⊎ WasLeast n lag grain taken s → s ≤ℤ l
+    by s (inl now) = holds s now
+    by s (inr was) = low.greatest s was
 
-pub rises_on : (lag grain : ℤ) (markers markers' : List MarkerValue) (queues queues' : List Queue) (taken : List Entry) (entry : Entry) (k : ℕ) → length markers' ≡ length markers → Knows lag grain markers queues taken → Knows lag grain markers' queues' (taken ++ entry ∷ []) → k < length markers → is_closed k taken ≡ false → Rises (length markers) lag grain taken (taken ++ entry ∷ []) (risen (low_of queues) (low_of queues'))
-rises_on lag grain markers markers' queues queues' taken entry k count knows knows' inside going =
-    rises_from lag grain markers queues taken entry k (low_of queues')
-    (subst (λ (n : ℕ). NewLeast n lag grain (taken ++ entry ∷ []) (low_of queues')) count (new_least lag grain markers' queues' (taken ++ entry ∷ []) (low_of queues') refl knows'))
-    knows inside going
+back_to : (n : ℕ) (lag grain : ℤ) (taken after : List Entry) (low : Option ℤ) → LowIs n lag grain taken low → LowIs n lag grain after low → (t : ℤ) → IsLow n lag grain after t → IsLow n lag grain taken t
+back_to n lag grain taken after None was now t low = absurd (now t low.was)
+back_to n lag grain taken after (Some l) was now t low = subst (IsLow n lag grain taken) (low_is_one n lag grain l t after now low) was
 
--- nothing is told where the queues are known to be as before
-still : (n : ℕ) (lag grain : ℤ) (before after : List Entry) (low : Option ℤ) → NewLeast n lag grain before low → NewLeast n lag grain after low → (t : ℤ) → IsLeastMark n lag grain after t → IsLeastMark n lag grain before t
-still n lag grain before after None was now t least = absurd (now t least)
-still n lag grain before after (Some s) was now t least = subst (IsLeastMark n lag grain before) (least_is_one n lag grain s t after now least) was
+-- what the watermark is after one entry more, and what was told of it
+pub record GoesOn (n : ℕ) (lag grain : ℤ) (taken : List Entry) (entry : Entry) (low told : Option ℤ) : Type 0 where
+  pub low_is : LowIs n lag grain (taken ++ entry ∷ []) low
+  pub rises : Rises n lag grain taken (taken ++ entry ∷ []) told
 
-pub rises_not : (lag grain : ℤ) (markers markers' : List MarkerValue) (queues : List Queue) (taken : List Entry) (entry : Entry) → length markers' ≡ length markers → Knows lag grain markers queues taken → Knows lag grain markers' queues (taken ++ entry ∷ []) → Rises (length markers) lag grain taken (taken ++ entry ∷ []) None
-rises_not lag grain markers markers' queues taken entry count knows knows' =
-    record {
-      rose = tt;
-      stayed = still (length markers) lag grain taken (taken ++ entry ∷ []) (low_of queues) (new_least lag grain markers queues taken (low_of queues) refl knows)
-          (subst (λ (n : ℕ). NewLeast n lag grain (taken ++ entry ∷ []) (low_of queues)) count (new_least lag grain markers' queues (taken ++ entry ∷ []) (low_of queues) refl knows'));
-    }
+stays : (n : ℕ) (lag grain : ℤ) (taken : List Entry) (entry : Entry) (low : Option ℤ) → LowIs n lag grain taken low → Holds n lag grain (taken ++ entry ∷ []) low → GoesOn n lag grain taken entry low None
+stays n lag grain taken entry low was holds =
+    let now = stayed_low n lag grain taken entry low was holds in
+    record { low_is = now; rises = record { rose = tt; stayed = back_to n lag grain taken (taken ++ entry ∷ []) low was now } }
+
+rises_to : (n : ℕ) (lag grain : ℤ) (taken : List Entry) (entry : Entry) (old : Option ℤ) (t : ℤ) → LowIs n lag grain taken old → has_risen old t ≡ true → IsLeastMark n lag grain (taken ++ entry ∷ []) t → GoesOn n lag grain taken entry (Some t) (Some t)
+rises_to n lag grain taken entry old t was rose least =
+    let above = above_all n lag grain taken old t was rose in
+    record { low_is = rose_low n lag grain taken entry t least above; rises = record { rose = (least, above); stayed = tt } }
+
+pub goes_on : (n : ℕ) (lag grain : ℤ) (taken : List Entry) (entry : Entry) (queues queues' : View) (told : Option ℤ) → LowIs n lag grain taken queues.low → length queues'.queues ≡ n → AreKnown n lag grain queues' (taken ++ entry ∷ []) → HoldsNoneBack queues' → RisesToLeast queues.low queues' → Step queues.low queues'.low told → GoesOn n lag grain taken entry queues'.low told
+goes_on n lag grain taken entry queues queues' told was count known holds least (Rose t tells now rose) =
+    subst (λ (o : Option ℤ). GoesOn n lag grain taken entry o told) (sym now)
+    (subst (λ (o : Option ℤ). GoesOn n lag grain taken entry (Some t) o) (sym tells)
+    (rises_to n lag grain taken entry queues.low t was rose (least_known n lag grain queues' (taken ++ entry ∷ []) t count known (least t now rose))))
+goes_on n lag grain taken entry queues queues' told was count known holds least (Stayed tells now) =
+    subst (λ (o : Option ℤ). GoesOn n lag grain taken entry queues'.low o) (sym tells)
+    (stays n lag grain taken entry queues'.low (subst (LowIs n lag grain taken) (sym now) was) (λ s h. low_holds n lag grain queues' (taken ++ entry ∷ []) s count known holds h))
+
+-- nothing was told to the coalescer
+pub still : (n : ℕ) (lag grain : ℤ) (taken : List Entry) (entry : Entry) (queues : View) → LowIs n lag grain taken queues.low → length queues.queues ≡ n → AreKnown n lag grain queues (taken ++ entry ∷ []) → HoldsNoneBack queues → GoesOn n lag grain taken entry queues.low None
+still n lag grain taken entry queues was count known holds =
+    stays n lag grain taken entry queues.low was (λ s h. low_holds n lag grain queues (taken ++ entry ∷ []) s count known holds h)

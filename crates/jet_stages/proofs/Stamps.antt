@@ -8,14 +8,15 @@ use Rattle.jet_items.specs.Order.{Each}
 use Rattle.jet_policy.specs.MarkerValue.{MarkerValue}
 use Rattle.jet_coalescer.specs.declared.queue.Queue.{Queue}
 use Rattle.jet_coalescer.specs.Queues.{unknown, is_done_at}
+use Rattle.jet_coalescer.specs.View.{View}
 use Rattle.jet_boxes.specs.declared.port.Port.{Port}
 use Rattle.jet_boxes.specs.declared.port.Port.TheVariants.{Stream, Build}
 use Rattle.jet_boxes.specs.Held.{Held}
 use Rattle.jet_boxes.specs.Entry.{Entry, Given, Told, Closed, Finish, IsData, NotClosed}
 use Rattle.jet_boxes.specs.Calls.{Call}
 use Rattle.jet_stages.specs.declared.stamp.Stamp.{Stamp}
-use Rattle.jet_stages.specs.Stamp.{closes, is_closed, queue_mark}
-use Rattle.jet_stages.specs.Stamping.{Knows, Notes, Stamped, Owes, StampStands, StampAmid, Stands, Amid, Same, MayOwe, passed, mark_items}
+use Rattle.jet_stages.specs.Stamp.{closes, is_closed}
+use Rattle.jet_stages.specs.Stamping.{queue_known, Knows, Notes, Stamped, Owes, StampStands, StampAmid, Stands, Amid, Same, MayOwe, passed, mark_items}
 use Rattle.jet_stages.proofs.Stamping.{Comes, stamped_next}
 use Rattle.jet_stages.proofs.Knowing.{notes_same}
 
@@ -43,20 +44,20 @@ not_closed q (entry ∷ taken) h = both (closes q entry) (is_closed q taken) (he
     here (Closed Build queue) n = refl
     here Finish n = refl
 
-own_queue : (lag grain : ℤ) (markers : List MarkerValue) (queues : List Queue) (taken : List Entry) (q : ℕ) → q < length markers → Knows lag grain markers queues taken → slice_index_or queues q unknown ≡ record { mark = queue_mark lag grain q taken; done = is_closed q taken }
-own_queue lag grain markers queues taken q inside k = get_or_from_slice_get queues q (record { mark = queue_mark lag grain q taken; done = is_closed q taken }) unknown (k.queues_are q inside)
+own_queue : (lag grain : ℤ) (markers : List MarkerValue) (queues : View) (taken : List Entry) (q : ℕ) → q < length markers → Knows lag grain markers queues taken → slice_index_or queues.queues q unknown ≡ queue_known lag grain q taken
+own_queue lag grain markers queues taken q inside k = get_or_from_slice_get queues.queues q (queue_known lag grain q taken) unknown (k.queues_are q inside)
 
 -- the queue exists and is open
 pub record Ready (p : Stamp) (q : ℕ) : Type 0 where
   pub marker : q < length p.markers.items
-  pub queue : q < length p.queues
+  pub queue : q < length p.queues.queues
   pub going : is_done_at p.queues q ≡ false
 
-stands_by : (lag grain : ℤ) (markers : List MarkerValue) (queues : List Queue) (owed : Option ℤ) (taken : List Entry) (entry : Entry) (given : List Item) → owed ≡ None → StampAmid lag grain markers queues owed taken entry given → StampStands lag grain markers queues None taken given
+stands_by : (lag grain : ℤ) (markers : List MarkerValue) (queues : View) (owed : Option ℤ) (taken : List Entry) (entry : Entry) (given : List Item) → owed ≡ None → StampAmid lag grain markers queues owed taken entry given → StampStands lag grain markers queues None taken given
 stands_by lag grain markers queues None taken entry given none h = h
 stands_by lag grain markers queues (Some t) taken entry given none h = cc
 
-owes_by : (lag grain : ℤ) (markers : List MarkerValue) (queues : List Queue) (owed : Option ℤ) (t : ℤ) (taken : List Entry) (entry : Entry) (given : List Item) → owed ≡ Some t → StampAmid lag grain markers queues owed taken entry given → Owes lag grain markers queues t taken entry given
+owes_by : (lag grain : ℤ) (markers : List MarkerValue) (queues : View) (owed : Option ℤ) (t : ℤ) (taken : List Entry) (entry : Entry) (given : List Item) → owed ≡ Some t → StampAmid lag grain markers queues owed taken entry given → Owes lag grain markers queues t taken entry given
 owes_by lag grain markers queues owed t taken entry given is h = subst (λ (o : Option ℤ). StampAmid lag grain markers queues o taken entry given) is h
 
 pub ready : (p : Stamp) (port : Port) (q : ℕ) (taken : List Entry) (entry : Entry) (given : List Item) → p.owed ≡ None → Amid p taken entry given → port ≡ Stream → q < length p.markers.items → Each (NotClosed port q) taken → Ready p q
@@ -93,12 +94,12 @@ call_waits p entry box full =
 
 -- ---- what stands after an entry was taken
 
-entry_taken : (lag grain : ℤ) (markers markers' : List MarkerValue) (queues queues' : List Queue) (taken : List Entry) (entry : Entry) (given : List Item) (told : Option ℤ) → Comes (length markers) taken entry → Notes lag grain markers queues markers' queues' taken entry told → StampStands lag grain markers queues None taken given → Stamped (length markers') lag grain (taken ++ entry ∷ []) ((given ++ passed entry) ++ mark_items told)
+entry_taken : (lag grain : ℤ) (markers markers' : List MarkerValue) (queues queues' : View) (taken : List Entry) (entry : Entry) (given : List Item) (told : Option ℤ) → Comes (length markers) taken entry → Notes lag grain markers queues markers' queues' taken entry told → StampStands lag grain markers queues None taken given → Stamped (length markers') lag grain (taken ++ entry ∷ []) ((given ++ passed entry) ++ mark_items told)
 entry_taken lag grain markers markers' queues queues' taken entry given told comes notes h =
     subst (λ (n : ℕ). Stamped n lag grain (taken ++ entry ∷ []) ((given ++ passed entry) ++ mark_items told)) (sym notes.count)
     (stamped_next (length markers) lag grain taken entry given told h.knows.step comes notes.rises h.stamped)
 
-then_stands : (lag grain : ℤ) (markers markers' : List MarkerValue) (queues queues' : List Queue) (taken : List Entry) (entry : Entry) (given : List Item) (told : Option ℤ) → Comes (length markers) taken entry → Notes lag grain markers queues markers' queues' taken entry told → StampStands lag grain markers queues None taken given → StampStands lag grain markers' queues' None (taken ++ entry ∷ []) (given ++ (passed entry ++ mark_items told))
+then_stands : (lag grain : ℤ) (markers markers' : List MarkerValue) (queues queues' : View) (taken : List Entry) (entry : Entry) (given : List Item) (told : Option ℤ) → Comes (length markers) taken entry → Notes lag grain markers queues markers' queues' taken entry told → StampStands lag grain markers queues None taken given → StampStands lag grain markers' queues' None (taken ++ entry ∷ []) (given ++ (passed entry ++ mark_items told))
 then_stands lag grain markers markers' queues queues' taken entry given told comes notes h =
     record {
       none_owed = refl;
@@ -106,7 +107,7 @@ then_stands lag grain markers markers' queues queues' taken entry given told com
       stamped = subst (Stamped (length markers') lag grain (taken ++ entry ∷ [])) (append_assoc given (passed entry) (mark_items told)) (entry_taken lag grain markers markers' queues queues' taken entry given told comes notes h);
     }
 
-then_owes : (lag grain : ℤ) (markers markers' : List MarkerValue) (queues queues' : List Queue) (taken : List Entry) (entry : Entry) (given : List Item) (t : ℤ) → MayOwe entry → Comes (length markers) taken entry → Notes lag grain markers queues markers' queues' taken entry (Some t) → StampStands lag grain markers queues None taken given → Owes lag grain markers' queues' t taken entry (given ++ passed entry)
+then_owes : (lag grain : ℤ) (markers markers' : List MarkerValue) (queues queues' : View) (taken : List Entry) (entry : Entry) (given : List Item) (t : ℤ) → MayOwe entry → Comes (length markers) taken entry → Notes lag grain markers queues markers' queues' taken entry (Some t) → StampStands lag grain markers queues None taken given → Owes lag grain markers' queues' t taken entry (given ++ passed entry)
 then_owes lag grain markers markers' queues queues' taken entry given t may comes notes h =
     record {
       may = may;
@@ -215,10 +216,10 @@ call_passes p entry box not_this notes comes nothing =
     }
 
 pub mark_passes : (p : Stamp) (t : ℤ) (box : Held) → Call Stands Amid Same true p (Told t) box (Ok true) p box
-mark_passes p t box = call_passes p (Told t) box (λ h. h) (λ taken knows. notes_same p.lag p.grain p.markers.items p.queues taken (Told t) (λ q. refl) (λ q. refl) knows) (λ taken. tt) refl
+mark_passes p t box = call_passes p (Told t) box (λ h. h) (λ taken knows. notes_same p.lag p.grain p.markers.items p.queues taken (Told t) (λ q. refl) (λ q. refl) (λ q. refl) knows) (λ taken. tt) refl
 
 pub finish_passes : (p : Stamp) (box : Held) → Call Stands Amid Same true p Finish box (Ok true) p box
-finish_passes p box = call_passes p Finish box (λ h. h) (λ taken knows. notes_same p.lag p.grain p.markers.items p.queues taken Finish (λ q. refl) (λ q. refl) knows) (λ taken. tt) refl
+finish_passes p box = call_passes p Finish box (λ h. h) (λ taken knows. notes_same p.lag p.grain p.markers.items p.queues taken Finish (λ q. refl) (λ q. refl) (λ q. refl) knows) (λ taken. tt) refl
 
 -- the number of queues stays
 pub count_stays : (p q : Stamp) (taken : List Entry) (entry : Entry) (given : List Item) → p.owed ≡ None → Amid p taken entry given → ((es : List Entry) → KnowsAll p es → Notes p.lag p.grain p.markers.items p.queues q.markers.items q.queues es entry q.owed) → length q.markers.items ≡ length p.markers.items

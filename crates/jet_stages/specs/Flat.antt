@@ -32,6 +32,7 @@ FlatAmid legs next taken (Given port queue (item.Side s)) given = FlatStands leg
 FlatAmid legs next taken (Given port queue (item.Frame f)) given = FlatStands legs next taken given
 FlatAmid legs next taken (Given port queue (item.Row r)) given = FlatStands legs next taken given
 FlatAmid legs next taken (Given port queue (item.Late l)) given = FlatStands legs next taken given
+FlatAmid legs next taken (Given port queue item.Idle) given = FlatStands legs next taken given
 FlatAmid legs next taken (Given port queue (item.Mark m)) given = FlatStands legs next taken given
 FlatAmid legs next taken (Given port queue item.Done) given = FlatStands legs next taken given
 FlatAmid legs next taken (Told t) given = FlatStands legs next taken given

@@ -15,6 +15,7 @@ item_gives f (item.Side s) = item.Side s ∷ []
 item_gives f (item.Frame g) = item.Frame g ∷ []
 item_gives f (item.Row r) = item.Row r ∷ []
 item_gives f (item.Late l) = item.Late l ∷ []
+item_gives f item.Idle = item.Idle ∷ []
 item_gives f (item.Mark m) = item.Mark m ∷ []
 item_gives f item.Done = item.Done ∷ []
 

@@ -56,6 +56,7 @@ item_shadow R fits f keeps (item.Side s) = Shadows-refl R (item.Side s ∷ [])
 item_shadow R fits f keeps (item.Frame g) = Shadows-refl R (item.Frame g ∷ [])
 item_shadow R fits f keeps (item.Row r) = Shadows-refl R (item.Row r ∷ [])
 item_shadow R fits f keeps (item.Late l) = Shadows-refl R (item.Late l ∷ [])
+item_shadow R fits f keeps item.Idle = Shadows-refl R (item.Idle ∷ [])
 item_shadow R fits f keeps (item.Mark m) = Shadows-refl R (item.Mark m ∷ [])
 item_shadow R fits f keeps item.Done = Shadows-refl R (item.Done ∷ [])
 
@@ -71,6 +72,7 @@ sound_second behind (item.Side s) e d at h = tt
 sound_second behind (item.Frame f) e d at h = tt
 sound_second behind (item.Row r) e d at h = tt
 sound_second behind (item.Late l) e d at h = tt
+sound_second behind item.Idle e d at h = tt
 sound_second behind (item.Mark w) e d at h = λ below. rw (at.part, at.line) (h (subst (λ (t : ℤ). t <ℤ w) at.time below))
 sound_second behind item.Done e d at h = tt
 
@@ -80,6 +82,7 @@ closed_second (item.Side s) e d at h = tt
 closed_second (item.Frame f) e d at h = tt
 closed_second (item.Row r) e d at h = tt
 closed_second (item.Late l) e d at h = tt
+closed_second item.Idle e d at h = tt
 closed_second (item.Mark w) e d at h = tt
 closed_second item.Done e d at h = h
 
@@ -95,6 +98,7 @@ item_lates behind f (item.Side s) h = h
 item_lates behind f (item.Frame g) h = h
 item_lates behind f (item.Row r) h = h
 item_lates behind f (item.Late l) h = h
+item_lates behind f item.Idle h = h
 item_lates behind f (item.Mark m) h = h
 item_lates behind f item.Done h = h
 
@@ -110,6 +114,7 @@ item_open f (item.Side s) h = h
 item_open f (item.Frame g) h = h
 item_open f (item.Row r) h = h
 item_open f (item.Late l) h = h
+item_open f item.Idle h = h
 item_open f (item.Mark m) h = h
 item_open f item.Done h = h
 
@@ -176,6 +181,7 @@ item_events f (item.Side s) = refl
 item_events f (item.Frame g) = refl
 item_events f (item.Row r) = refl
 item_events f (item.Late l) = refl
+item_events f item.Idle = refl
 item_events f (item.Mark m) = refl
 item_events f item.Done = refl
 
@@ -185,6 +191,7 @@ item_others f (item.Side s) = refl
 item_others f (item.Frame g) = refl
 item_others f (item.Row r) = refl
 item_others f (item.Late l) = refl
+item_others f item.Idle = refl
 item_others f (item.Mark m) = refl
 item_others f item.Done = refl
 
@@ -194,6 +201,7 @@ item_marks f (item.Side s) = refl
 item_marks f (item.Frame g) = refl
 item_marks f (item.Row r) = refl
 item_marks f (item.Late l) = refl
+item_marks f item.Idle = refl
 item_marks f (item.Mark m) = refl
 item_marks f item.Done = refl
 

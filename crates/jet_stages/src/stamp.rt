@@ -10,7 +10,7 @@ ghost use Rattle.jet_boxes.specs.declared.port.Port.TheVariants.{Stream};
 ghost use Rattle.jet_boxes.specs.Entry.{Entry, Given, Told, Closed, Finish, items_of};
 ghost use Rattle.jet_boxes.specs.Calls.{Call, MayCall};
 ghost use Rattle.jet_stages.specs.Calls.{StampCall};
-ghost use Rattle.jet_stages.specs.Stamp.{StampMarks, StampBag, StampBagAmid, FromFiles, HasNoResults};
+ghost use Rattle.jet_stages.specs.Stamp.{unless_idle, StampMarks, StampBag, StampBagAmid, FromFiles, HasNoResults};
 ghost use Rattle.jet_stages.specs.Stamping.{Knows, Notes, Stands, Amid, Same, mark_items, told_by};
 
 use crate::put::put;
@@ -20,9 +20,10 @@ use jet_items::{Item, Mark, NoMemory};
 use jet_policy::Marker;
 use std::alloc::Global;
 
-/// The source of a job's marks. Its queues are the files of a source; it passes on every item, and where an event or
-/// the end of a queue raises the least of the marks of the queues that are open, it puts that mark behind. The marks
-/// of a queue are those of the limiting-lag policy of Hazelcast Jet. It is told no marks. It never wants memory.
+/// The source of a job's marks. Its queues are the files of a source; it passes on every item but idle notes. An idle
+/// note makes its queue idle until the next event of the queue. Where an item or the end of a queue raises the watermark
+/// of the queues that are neither closed nor idle, it puts that mark behind. The marks of a queue are those of the
+/// limiting-lag policy of Hazelcast Jet. It is told no marks. It never wants memory.
 #[derive(Drop)]
 pub struct Stamp {
     // What the markers were made with.
@@ -54,24 +55,26 @@ impl Stamp {
         })
     }
 
-    // Sees the time of an event, and answers the least mark of all queues where it is the first or rose.
+    // Sees the time of an event, which wakes its queue, and answers the watermark where it is the first or rose.
     fn see(&mut self, queue: u32, ts: i64) -> Option<Mark>
         requires marker { queue < length self.old.markers.items }
-        requires queue { queue < length self.old.queues }
+        requires queue { queue < length self.old.queues.queues }
         requires going { is_done_at self.old.queues queue ≡ false }
         requires time { IsWithin most_time ts }
         ensures settings { (self.new.lag ≡ self.old.lag) × (self.new.grain ≡ self.old.grain) × (self.new.owed ≡ self.old.owed) }
         ensures notes { (taken : List Entry) (e : EventValue) → e.ts ≡ ts → Knows self.old.lag self.old.grain self.old.markers.items self.old.queues taken
             → Notes self.old.lag self.old.grain self.old.markers.items self.old.queues self.new.markers.items self.new.queues taken (Given Stream queue (item.Event e)) result }
     {
-        let mark = self.markers[queue as usize].see(ts)?;
-        self.queues.observe(queue, mark)
+        match self.markers[queue as usize].see(ts) {
+            Some(mark) => self.queues.observe(queue, mark),
+            None => self.queues.wake(queue),
+        }
     }
 
-    // The same of an item, where it is an event.
+    // The same of an item, where it is an event; an idle note makes its queue idle.
     fn note(&mut self, queue: u32, item: &Item) -> Option<Mark>
         requires marker { queue < length self.old.markers.items }
-        requires queue { queue < length self.old.queues }
+        requires queue { queue < length self.old.queues.queues }
         requires going { is_done_at self.old.queues queue ≡ false }
         ensures settings { (self.new.lag ≡ self.old.lag) × (self.new.grain ≡ self.old.grain) × (self.new.owed ≡ self.old.owed) }
         ensures notes { (taken : List Entry) → Knows self.old.lag self.old.grain self.old.markers.items self.old.queues taken
@@ -79,14 +82,15 @@ impl Stamp {
     {
         match item {
             Item::Event(event) => self.see(queue, event.ts),
+            Item::Idle => self.queues.idle(queue),
             _ => None,
         }
     }
 
-    // Takes the end of a queue, and answers the least mark of all queues where it rose.
+    // Takes the end of a queue, and answers the watermark where it is the first or rose.
     fn end(&mut self, queue: u32) -> Option<Mark>
         requires marker { queue < length self.old.markers.items }
-        requires queue { queue < length self.old.queues }
+        requires queue { queue < length self.old.queues.queues }
         requires going { is_done_at self.old.queues queue ≡ false }
         ensures settings { (self.new.lag ≡ self.old.lag) × (self.new.grain ≡ self.old.grain) × (self.new.owed ≡ self.old.owed) }
         ensures notes { (taken : List Entry) → Knows self.old.lag self.old.grain self.old.markers.items self.old.queues taken
@@ -107,6 +111,18 @@ impl Stamp {
             self.owed = None;
         }
         true
+    }
+}
+
+// Puts an item, unless it is an idle note; false where the box is full.
+fn pass_on(out: &mut Outbox, item: &Item) -> bool
+    ensures put { result ≡ true → out.new ≡ record out.old { items = out.old.items ++ unless_idle item.now } }
+    ensures kept { result ≡ false → out.new ≡ out.old }
+    ensures full { result ≡ false → length out.old.items ≡ out.old.room }
+{
+    match item {
+        Item::Idle => true,
+        other => put(out, *other),
     }
 }
 
@@ -153,7 +169,7 @@ impl Processor for Stamp {
         if self.owed.is_some() {
             return Ok(self.settle(out));
         }
-        if !put(out, *item) {
+        if !pass_on(out, item) {
             return Ok(false);
         }
         self.owed = self.note(queue, item);

@@ -195,6 +195,34 @@ fn a_stamp_waits_for_its_slower_queue(rt: HostRuntime) -> Result<(), Fail> {
     Ok(())
 }
 
+// What a stamp of two queues gives for 20 of the first, an idle note of the second, 12 of the second and 30 of the first:
+// the mark of 20 comes with the idle note, and stays once the second queue has an event again.
+fn stamped_while_idle(alloc: Global) -> Result<Vec<Item>, NoMemory> {
+    let mut stamp = Stamp::new(alloc, 2, 3, 5)?;
+    let mut out = Outbox::new(alloc, 1)?;
+    let mut given = Vec::new(alloc);
+    let first = event(1, 20, 0, 0).ok_or(NoMemory)?;
+    let second = event(2, 12, 0, 0).ok_or(NoMemory)?;
+    let third = event(2, 30, 0, 0).ok_or(NoMemory)?;
+    give(&mut stamp, 0, &first, &mut out, &mut given)?;
+    give(&mut stamp, 1, &Item::Idle, &mut out, &mut given)?;
+    give(&mut stamp, 1, &second, &mut out, &mut given)?;
+    give(&mut stamp, 0, &third, &mut out, &mut given)?;
+    Ok(given)
+}
+
+#[test]
+fn a_stamp_does_not_wait_for_an_idle_queue(rt: HostRuntime) -> Result<(), Fail> {
+    if let Ok(given) = stamped_while_idle(rt.alloc()) {
+        assert_eq!(rt; given.len(), 4);
+        assert_eq!(rt; given.get(1).map(shown), Some((0, 15, 0)));
+        assert_eq!(rt; given.last().map(shown), Some((1, 0, 0)));
+        return Ok(());
+    }
+    assert!(rt; false);
+    Ok(())
+}
+
 type Stages = (FilterP, MapP, FlatP, Stamp);
 
 fn moved_apart<R: Threads + Sync>(rt: &R, stages: Stages) -> Stages {

@@ -9,7 +9,7 @@ returns-clause-stands c =
     let l : ℤ = to_z w64 (of_z w64 c.args.lag) in
     let g : ℤ = to_z w64 (of_z w64 c.args.grain) in
     let all : c.resize.new.self.items ≡ replicate c.args.partitions c.new.result = search rules in
-    let queues : c.in_ok-new.field-0 ≡ replicate c.args.partitions unknown = search rules in
+    let queues : c.in_ok-new.field-0 ≡ record { queues = replicate c.args.partitions unknown; low = None } = search rules in
     let lag : c.new.result.lag ≡ l = search rules in
     let grain : c.new.result.grain ≡ g = search rules in
     stands_new c.args.partitions l g c.resize.new.self.items c.in_ok-new.field-0 (omega (arith, ints, c.requires.grain.0))

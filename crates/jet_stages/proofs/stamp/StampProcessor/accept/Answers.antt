@@ -32,7 +32,7 @@ returns c =
     let may = c.requires.3 in
     let open_queue : Ready p c.args.queue = ready p c.args._port c.args.queue c.requires.0 (Given c.args._port c.args.queue x) c.requires.1 no_mark c.requires.2 may.1.0 may.1.1 may.3 in
     let q : Stamp = record c.note-self.new.self { owed = c.note-self.result } in
-    let fits : c.put.result ≡ true = search rules in
+    let fits : c.pass_on.result ≡ true = search rules in
     subst (λ (port : Port). Call Stands Amid Same true p (Given port c.args.queue x) c.args.out.now (Ok c.settle-2.result) c.settle-2.new.self c.settle-2.new.out) (sym may.1.0)
-    (call_begins p q c.settle-2.new.self (Given Stream c.args.queue x) c.args.out.now c.put.new.out c.settle-2.new.out c.settle-2.result no_mark may.2 (item_comes p c.args.queue x open_queue may.2) (c.note-self.ensures.settings.0, c.note-self.ensures.settings.1) c.note-self.ensures.notes
-    (count_stays p q c.requires.0 (Given Stream c.args.queue x) c.requires.1 no_mark (subst (λ (port : Port). Amid p c.requires.0 (Given port c.args.queue x) c.requires.1) may.1.0 c.requires.2) c.note-self.ensures.notes) (c.put.ensures.put fits) c.settle-2.ensures.settled c.settle-2.ensures.waits)
+    (call_begins p q c.settle-2.new.self (Given Stream c.args.queue x) c.args.out.now c.pass_on.new.out c.settle-2.new.out c.settle-2.result no_mark may.2 (item_comes p c.args.queue x open_queue may.2) (c.note-self.ensures.settings.0, c.note-self.ensures.settings.1) c.note-self.ensures.notes
+    (count_stays p q c.requires.0 (Given Stream c.args.queue x) c.requires.1 no_mark (subst (λ (port : Port). Amid p c.requires.0 (Given port c.args.queue x) c.requires.1) may.1.0 c.requires.2) c.note-self.ensures.notes) (c.pass_on.ensures.put fits) c.settle-2.ensures.settled c.settle-2.ensures.waits)
