@@ -14,7 +14,7 @@ use Rattle.jet_boxes.specs.declared.port.Port.TheVariants.{Stream, Build}
 use Rattle.jet_join.specs.declared.join.JoinP.{JoinP}
 use Rattle.jet_join.specs.declared.side_rows.SideRows.{SideRows}
 use Rattle.jet_join.specs.Kept.{kept_with}
-use Rattle.jet_join.specs.Taken.{build_items, build_rows}
+use Rattle.jet_boxes.specs.Ports.{build_items, build_rows}
 use Rattle.jet_join.specs.Stands.{gives, all_given, Keeps, JoinStands, JoinAmid, items_over, Puts}
 use Rattle.jet_join.specs.Calls.{JoinCall}
 use Rattle.jet_join.specs.Outs.{given-push, rows-push}
@@ -76,6 +76,7 @@ stream_passes j queue (item.Side s) h rows = refl
 stream_passes j queue (item.Frame f) h rows = refl
 stream_passes j queue (item.Row r) h rows = refl
 stream_passes j queue (item.Late l) h rows = refl
+stream_passes j queue item.Idle h rows = refl
 stream_passes j queue (item.Mark m) h rows = refl
 stream_passes j queue item.Done h rows = refl
 
@@ -85,6 +86,7 @@ build_passes j queue (item.Side s) h rows = absurd (h s refl)
 build_passes j queue (item.Frame f) h rows = refl
 build_passes j queue (item.Row r) h rows = refl
 build_passes j queue (item.Late l) h rows = refl
+build_passes j queue item.Idle h rows = refl
 build_passes j queue (item.Mark m) h rows = refl
 build_passes j queue item.Done h rows = refl
 
@@ -94,6 +96,7 @@ no_row queue (item.Side s) h = absurd (h s refl)
 no_row queue (item.Frame f) h = refl
 no_row queue (item.Row r) h = refl
 no_row queue (item.Late l) h = refl
+no_row queue item.Idle h = refl
 no_row queue (item.Mark m) h = refl
 no_row queue item.Done h = refl
 

@@ -6,7 +6,7 @@ use Rattle.jet_items.specs.Joins.{Joining, joined}
 use Rattle.jet_items.specs.Kinds.{events_of, sides_of, frames_of, rows_of, lates_of}
 use Rattle.jet_items.specs.declared.item.Item.{Item}
 use Rattle.jet_boxes.specs.Entry.{Entry, items_of}
-use Rattle.jet_join.specs.Taken.{stream_events, build_rows, build_events, stream_sides, BuildFirst}
+use Rattle.jet_boxes.specs.Ports.{stream_events, build_rows, build_events, stream_sides, BuildFirst}
 
 -- each event of the stream gives what it gives over all rows, if those came first; all other data passes unchanged, in its order
 pub record JoinBag (j : Joining) (taken : List Entry) (given : List Item) : Type 0 where

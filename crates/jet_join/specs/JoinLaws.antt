@@ -14,7 +14,7 @@ use Rattle.jet_boxes.specs.Entry.{Entry, Given, Told, Closed, Finish, NotDone, e
 use Rattle.jet_boxes.specs.declared.port.Port.TheVariants.{Stream, Build}
 use Rattle.jet_join.specs.declared.side_rows.SideRows.{SideRows}
 use Rattle.jet_join.specs.Bag.{JoinBag}
-use Rattle.jet_join.specs.Taken.{build_rows}
+use Rattle.jet_boxes.specs.Ports.{build_rows}
 use Rattle.jet_join.specs.Stands.{gives, with_rows, all_given, JoinStands, JoinAmid}
 use Rattle.jet_join.specs.Outs.{given-push, same_kind, same_sides, events_are}
 
@@ -62,6 +62,7 @@ shadow R f j rows (Given Stream q (item.Side s)) = Shadows-refl R _
 shadow R f j rows (Given Stream q (item.Frame g)) = Shadows-refl R _
 shadow R f j rows (Given Stream q (item.Row r)) = Shadows-refl R _
 shadow R f j rows (Given Stream q (item.Late l)) = Shadows-refl R _
+shadow R f j rows (Given Stream q item.Idle) = Shadows-refl R _
 shadow R f j rows (Given Stream q (item.Mark m)) = Shadows-refl R _
 shadow R f j rows (Given Stream q item.Done) = Shadows-refl R _
 shadow R f j rows (Given Build q (item.Event e)) = Shadows-refl R _
@@ -69,6 +70,7 @@ shadow R f j rows (Given Build q (item.Side s)) = Shadows-nil R _
 shadow R f j rows (Given Build q (item.Frame g)) = Shadows-refl R _
 shadow R f j rows (Given Build q (item.Row r)) = Shadows-refl R _
 shadow R f j rows (Given Build q (item.Late l)) = Shadows-refl R _
+shadow R f j rows (Given Build q item.Idle) = Shadows-refl R _
 shadow R f j rows (Given Build q (item.Mark m)) = Shadows-refl R _
 shadow R f j rows (Given Build q item.Done) = Shadows-refl R _
 shadow R f j rows (Told t) = Shadows-refl R _
@@ -86,6 +88,7 @@ sound_second behind (item.Side s) e key v h = tt
 sound_second behind (item.Frame g) e key v h = tt
 sound_second behind (item.Row r) e key v h = tt
 sound_second behind (item.Late l) e key v h = tt
+sound_second behind item.Idle e key v h = tt
 sound_second behind (item.Mark m) e key v h = h
 sound_second behind item.Done e key v h = tt
 
@@ -95,6 +98,7 @@ closed_second (item.Side s) e key v h = tt
 closed_second (item.Frame g) e key v h = tt
 closed_second (item.Row r) e key v h = tt
 closed_second (item.Late l) e key v h = tt
+closed_second item.Idle e key v h = tt
 closed_second (item.Mark m) e key v h = tt
 closed_second item.Done e key v h = h
 
@@ -108,6 +112,7 @@ lates_each behind j rows (Given Stream q (item.Side s)) h = h
 lates_each behind j rows (Given Stream q (item.Frame g)) h = h
 lates_each behind j rows (Given Stream q (item.Row r)) h = h
 lates_each behind j rows (Given Stream q (item.Late l)) h = h
+lates_each behind j rows (Given Stream q item.Idle) h = h
 lates_each behind j rows (Given Stream q (item.Mark m)) h = h
 lates_each behind j rows (Given Stream q item.Done) h = h
 lates_each behind j rows (Given Build q (item.Event e)) h = h
@@ -115,6 +120,7 @@ lates_each behind j rows (Given Build q (item.Side s)) h = tt
 lates_each behind j rows (Given Build q (item.Frame g)) h = h
 lates_each behind j rows (Given Build q (item.Row r)) h = h
 lates_each behind j rows (Given Build q (item.Late l)) h = h
+lates_each behind j rows (Given Build q item.Idle) h = h
 lates_each behind j rows (Given Build q (item.Mark m)) h = h
 lates_each behind j rows (Given Build q item.Done) h = h
 lates_each behind j rows (Told t) h = h
@@ -173,6 +179,7 @@ open_each j rows (Given Stream q (item.Side s)) h = h
 open_each j rows (Given Stream q (item.Frame g)) h = h
 open_each j rows (Given Stream q (item.Row r)) h = h
 open_each j rows (Given Stream q (item.Late l)) h = h
+open_each j rows (Given Stream q item.Idle) h = h
 open_each j rows (Given Stream q (item.Mark m)) h = h
 open_each j rows (Given Stream q item.Done) h = h
 open_each j rows (Given Build q (item.Event e)) h = h
@@ -180,6 +187,7 @@ open_each j rows (Given Build q (item.Side s)) h = tt
 open_each j rows (Given Build q (item.Frame g)) h = h
 open_each j rows (Given Build q (item.Row r)) h = h
 open_each j rows (Given Build q (item.Late l)) h = h
+open_each j rows (Given Build q item.Idle) h = h
 open_each j rows (Given Build q (item.Mark m)) h = h
 open_each j rows (Given Build q item.Done) h = h
 open_each j rows (Told t) h = h
@@ -233,6 +241,7 @@ marks_yet j rows next (Given Stream q (item.Side s)) h = ap marks_of (none_yet n
 marks_yet j rows next (Given Stream q (item.Frame g)) h = ap marks_of (none_yet next (item.Frame g) h)
 marks_yet j rows next (Given Stream q (item.Row r)) h = ap marks_of (none_yet next (item.Row r) h)
 marks_yet j rows next (Given Stream q (item.Late l)) h = ap marks_of (none_yet next (item.Late l) h)
+marks_yet j rows next (Given Stream q item.Idle) h = ap marks_of (none_yet next item.Idle h)
 marks_yet j rows next (Given Stream q (item.Mark m)) h = ap marks_of (none_yet next (item.Mark m) h)
 marks_yet j rows next (Given Stream q item.Done) h = ap marks_of (none_yet next item.Done h)
 marks_yet j rows next (Given Build q (item.Event e)) h = ap marks_of (none_yet next (item.Event e) h)
@@ -241,6 +250,7 @@ marks_yet j rows (suc n) (Given Build q (item.Side s)) h = refl
 marks_yet j rows next (Given Build q (item.Frame g)) h = ap marks_of (none_yet next (item.Frame g) h)
 marks_yet j rows next (Given Build q (item.Row r)) h = ap marks_of (none_yet next (item.Row r) h)
 marks_yet j rows next (Given Build q (item.Late l)) h = ap marks_of (none_yet next (item.Late l) h)
+marks_yet j rows next (Given Build q item.Idle) h = ap marks_of (none_yet next item.Idle h)
 marks_yet j rows next (Given Build q (item.Mark m)) h = ap marks_of (none_yet next (item.Mark m) h)
 marks_yet j rows next (Given Build q item.Done) h = ap marks_of (none_yet next item.Done h)
 marks_yet j rows next (Told t) h = ap marks_of (none_yet next (item.Mark t) h)

@@ -6,4 +6,3 @@ pub mod Kept
 pub mod Outs
 pub mod Settings
 pub mod Stands
-pub mod Taken

@@ -12,7 +12,7 @@ use Rattle.jet_items.specs.declared.item.Item.TheVariants as item
 use Rattle.jet_items.proofs.Bags.{SameBag-refl}
 use Rattle.jet_boxes.specs.Entry.{Entry, Given, Told, Closed, Finish, entry_items, items_of}
 use Rattle.jet_boxes.specs.declared.port.Port.TheVariants.{Stream, Build}
-use Rattle.jet_join.specs.Taken.{stream_items, build_items, stream_events, build_rows, build_events, stream_sides, BuildFirst}
+use Rattle.jet_boxes.specs.Ports.{stream_items, build_items, stream_events, build_rows, build_events, stream_sides, BuildFirst}
 use Rattle.jet_join.specs.Stands.{gives, with_rows, all_given}
 
 pub with_rows-append : (rows : List SideValue) (es fs : List Entry) → with_rows rows (es ++ fs) ≡ with_rows rows es ++ with_rows (rows ++ build_rows es) fs
@@ -44,6 +44,7 @@ one_kind f j none nor rows (Given Stream q (item.Side s)) = refl
 one_kind f j none nor rows (Given Stream q (item.Frame g)) = refl
 one_kind f j none nor rows (Given Stream q (item.Row r)) = refl
 one_kind f j none nor rows (Given Stream q (item.Late l)) = refl
+one_kind f j none nor rows (Given Stream q item.Idle) = refl
 one_kind f j none nor rows (Given Stream q (item.Mark m)) = refl
 one_kind f j none nor rows (Given Stream q item.Done) = refl
 one_kind f j none nor rows (Given Build q (item.Event e)) = refl
@@ -51,6 +52,7 @@ one_kind f j none nor rows (Given Build q (item.Side s)) = sym (append-nil (f (i
 one_kind f j none nor rows (Given Build q (item.Frame g)) = refl
 one_kind f j none nor rows (Given Build q (item.Row r)) = refl
 one_kind f j none nor rows (Given Build q (item.Late l)) = refl
+one_kind f j none nor rows (Given Build q item.Idle) = refl
 one_kind f j none nor rows (Given Build q (item.Mark m)) = refl
 one_kind f j none nor rows (Given Build q item.Done) = refl
 one_kind f j none nor rows (Told t) = refl
@@ -74,6 +76,7 @@ one_sides j rows (Given Stream q (item.Side s)) = refl
 one_sides j rows (Given Stream q (item.Frame g)) = refl
 one_sides j rows (Given Stream q (item.Row r)) = refl
 one_sides j rows (Given Stream q (item.Late l)) = refl
+one_sides j rows (Given Stream q item.Idle) = refl
 one_sides j rows (Given Stream q (item.Mark m)) = refl
 one_sides j rows (Given Stream q item.Done) = refl
 one_sides j rows (Given Build q (item.Event e)) = refl
@@ -81,6 +84,7 @@ one_sides j rows (Given Build q (item.Side s)) = refl
 one_sides j rows (Given Build q (item.Frame g)) = refl
 one_sides j rows (Given Build q (item.Row r)) = refl
 one_sides j rows (Given Build q (item.Late l)) = refl
+one_sides j rows (Given Build q item.Idle) = refl
 one_sides j rows (Given Build q (item.Mark m)) = refl
 one_sides j rows (Given Build q item.Done) = refl
 one_sides j rows (Told t) = refl
@@ -106,6 +110,7 @@ one_events j rows (Given Stream q (item.Side s)) = refl
 one_events j rows (Given Stream q (item.Frame g)) = refl
 one_events j rows (Given Stream q (item.Row r)) = refl
 one_events j rows (Given Stream q (item.Late l)) = refl
+one_events j rows (Given Stream q item.Idle) = refl
 one_events j rows (Given Stream q (item.Mark m)) = refl
 one_events j rows (Given Stream q item.Done) = refl
 one_events j rows (Given Build q (item.Event e)) = refl
@@ -113,6 +118,7 @@ one_events j rows (Given Build q (item.Side s)) = refl
 one_events j rows (Given Build q (item.Frame g)) = refl
 one_events j rows (Given Build q (item.Row r)) = refl
 one_events j rows (Given Build q (item.Late l)) = refl
+one_events j rows (Given Build q item.Idle) = refl
 one_events j rows (Given Build q (item.Mark m)) = refl
 one_events j rows (Given Build q item.Done) = refl
 one_events j rows (Told t) = refl

@@ -10,7 +10,7 @@ use Rattle.jet_boxes.specs.Entry.{Entry, Given, Told, Closed, Finish}
 use Rattle.jet_boxes.specs.declared.port.Port.TheVariants.{Stream, Build}
 use Rattle.jet_join.specs.declared.side_rows.SideRows.{SideRows}
 use Rattle.jet_join.specs.Kept.{kept_with}
-use Rattle.jet_join.specs.Taken.{build_items, build_rows}
+use Rattle.jet_boxes.specs.Ports.{build_items, build_rows}
 
 -- what an event gives over the rows of its key
 abbrev pub items_over : Joining → List SideValue → EventValue → List Item
@@ -23,6 +23,7 @@ stream_gives j rows (item.Side s) = item.Side s ∷ []
 stream_gives j rows (item.Frame f) = item.Frame f ∷ []
 stream_gives j rows (item.Row r) = item.Row r ∷ []
 stream_gives j rows (item.Late l) = item.Late l ∷ []
+stream_gives j rows item.Idle = item.Idle ∷ []
 stream_gives j rows (item.Mark m) = item.Mark m ∷ []
 stream_gives j rows item.Done = item.Done ∷ []
 
@@ -32,6 +33,7 @@ build_gives (item.Side s) = []
 build_gives (item.Frame f) = item.Frame f ∷ []
 build_gives (item.Row r) = item.Row r ∷ []
 build_gives (item.Late l) = item.Late l ∷ []
+build_gives item.Idle = item.Idle ∷ []
 build_gives (item.Mark m) = item.Mark m ∷ []
 build_gives item.Done = item.Done ∷ []
 

@@ -10,7 +10,7 @@ ghost use Rattle.jet_boxes.specs.Calls.{Call, MayCall};
 ghost use Rattle.jet_join.specs.Bag.{JoinBag};
 ghost use Rattle.jet_join.specs.Calls.{Stands, Amid, JoinCall, JoinMayCall, setting_of};
 ghost use Rattle.jet_join.specs.Settings.{IsField, joining};
-ghost use Rattle.jet_join.specs.Taken.{build_items};
+ghost use Rattle.jet_boxes.specs.Ports.{build_items};
 ghost use Rattle.jet_join.specs.Stands.{Puts, items_over};
 
 use crate::mode::Mode;

@@ -9,7 +9,9 @@ use jet_items::{Event, Side as SideRow};
 /// The field of the event or of the side row that a joined event takes over, from 0 to 3.
 #[derive(Clone, Copy, Debug, PartialEq, Eq)]
 pub enum Take {
+    /// This field of the event.
     Event(u8),
+    /// This field of the side row.
     Side(u8),
 }
 
