@@ -1,20 +1,20 @@
 -- A gift, beside all gifts before it.
-use Rattle.std.proofs.Common.{◌≡◌, ◌≢◌, ℕ, ◌+◌, ◌<◌, ◌≤◌, ◌==◌, Bool, true, false, cond, List, [], ◌∷◌, ◌++◌, map, length, get_or, set, refl, sym, ◌∙◌, ap, subst, append-nil, arith, inl, inr}
-use Rattle.std.specs.Prelude.{Option, Some, None}
-use Rattle.std.specs.List.{flat_map, AllByRecursion}
+use Rattle.std.proofs.Common.{◌≡◌, ◌≢◌, ℕ, ◌<◌, ◌≤◌, Bool, true, false, cond, List, [], ◌∷◌, ◌++◌, map, length, get_or, set, refl, sym, ◌∙◌, ap, subst, append-nil, arith, inl, inr}
+use Rattle.std.specs.Prelude.{Some, None}
+use Rattle.std.specs.List.{AllByRecursion}
 use Rattle.std.proofs.lemmas.List.{get_or-set_same, get_or-set_other, get_or-map, length-map}
 use Rattle.std.proofs.lemmas.List.Concat.{flat_map-append}
 use Rattle.std.proofs.lemmas.Bool.Decides.{eqb_tells}
-use Rattle.std.proofs.lemmas.Bool.{eq-eqb}
-use Rattle.jet_ring.specs.Ring.{Ring, TxView}
+use Rattle.jet_ring.specs.Ring.{Ring}
 use Rattle.jet_items.specs.declared.item.Item.{Item}
 use Rattle.jet_router.specs.declared.Given.{Given}
 use Rattle.jet_router.specs.declared.Given.TheVariants.{All, Again}
 use Rattle.jet_router.specs.declared.aim.Aim.{Aim}
 use Rattle.jet_router.specs.declared.aim.Aim.TheVariants.{Each, Any, Only}
-use Rattle.jet_router.specs.Aim.{key_of, aim_of}
+use Rattle.jet_items.specs.Partition.{item_key}
+use Rattle.jet_router.specs.Aim.{aim_of}
 use Rattle.jet_router.specs.Dest.{DestView}
-use Rattle.jet_router.specs.Router.{View, aim, rings, sents, frees, hads, settled, settled_if, IsInHand, SentTo, SameRouter}
+use Rattle.jet_router.specs.Router.{View, aim, rings, sents, frees, settled, settled_if, IsInHand, SentTo, SameRouter}
 use Rattle.jet_router.specs.Gives.{Gives}
 use Rattle.jet_router.specs.Deals.{Deal, reaches_dest, sent_by, FitsAim, Dealt, DealtAfter, IsStuck}
 
@@ -32,7 +32,7 @@ same_length : (a b : View) → SameRouter a b → length b.dests ≡ length a.de
 same_length a b s = sym (length_rings b) ∙ (ap (λ (rs : List Ring). length rs) s.rings_kept ∙ length_rings a)
 
 same_aim : (a b : View) → SameRouter a b → (x : Item) → aim b x ≡ aim a x
-same_aim a b s x = ap (λ r. aim_of r b.table (key_of x)) s.route ∙ ap (λ (t : List ℕ). aim_of a.route t (key_of x)) s.table
+same_aim a b s x = ap (λ r. aim_of r b.table (item_key x)) s.route ∙ ap (λ (t : List ℕ). aim_of a.route t (item_key x)) s.table
 
 settled_free : (v : View) → v.busy ≡ false → settled v ≡ sents v
 settled_free v e = ap (λ u. settled_if u v.dests) e
@@ -138,7 +138,7 @@ stuck_at Each a b x g fewer =
     let less : get_or (frees b) k 0 ≤ get_or (frees a) k 0 = fewer k in
     (k, g.some.1, g.some.2, omega (arith, none, less))
 stuck_at Any a b x g fewer = subst (λ (v : View). IsStuck Any v) (sym g.0) g.1
-stuck_at (Only d) a b x g fewer = subst (λ (v : View). IsStuck (Only d) v) (sym g.0) g.1
+stuck_at (Only d) a b x g fewer = subst (λ (v : View). IsStuck (Only d) v) (sym g.0) (g.1, g.2)
 
 -- where it is to be given again, it is owed to a destination without a free slot
 pub gift_stuck : (w : Aim) (r : Given) (a b : View) (x : Item) → aim a x ≡ w → Gives w r a b x → SameRouter a b → Fewer w a b → r ≡ Again → IsStuck (aim b x) b

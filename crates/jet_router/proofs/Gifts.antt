@@ -7,7 +7,8 @@ use Rattle.jet_ring.specs.Ring.{TxView}
 use Rattle.jet_router.specs.declared.Given.{Given}
 use Rattle.jet_router.specs.declared.Given.TheVariants.{All, Again}
 use Rattle.jet_router.specs.declared.aim.Aim.TheVariants.{Each}
-use Rattle.jet_router.specs.Aim.{key_of, aim_of}
+use Rattle.jet_items.specs.Partition.{item_key}
+use Rattle.jet_router.specs.Aim.{aim_of}
 use Rattle.jet_router.specs.Dest.{DestView, served, settled_by, HasInHand, starts}
 use Rattle.jet_router.specs.Router.{View, aim, reaches, sents, frees, settled_if, IsInHand, SameRouter}
 use Rattle.jet_router.specs.Gives.{Gives}
@@ -79,7 +80,7 @@ module _ (a b : View) (x : Item) (s : ServedEach a b x) where
         settled_kept =
             ap (λ u. settled_if u b.dests) (again refl).0 ∙ ap settle s.dests ∙ settled_kept x ds ∙ sym (settled-starts a.busy a.dests);
         in_hand = (
-          ap₂ (λ r t. aim_of r t (key_of x)) s.route s.table ∙ aimed,
+          ap₂ (λ r t. aim_of r t (item_key x)) s.route s.table ∙ aimed,
           hand_of_each x b.dests (subst P (sym s.dests) (in_hand_kept x ds held)),
         );
         kept =

@@ -1,22 +1,10 @@
 -- Where an item goes.
 use Rattle.std.specs.Prelude.{ℕ, List, Option, Some, None, slice_index}
-use Rattle.jet_items.specs.declared.item.Item.{Item}
-use Rattle.jet_items.specs.declared.item.Item.TheVariants as item
 use Rattle.jet_items.specs.Partition.{key_partition}
 use Rattle.jet_router.specs.declared.aim.Route.{Route}
 use Rattle.jet_router.specs.declared.aim.Route.TheVariants.{Unicast, Broadcast, Partitioned}
 use Rattle.jet_router.specs.declared.aim.Aim.{Aim}
 use Rattle.jet_router.specs.declared.aim.Aim.TheVariants.{Each, Any, Only}
-
--- the key of a data item; a mark and Done have none
-abbrev pub key_of : Item → Option (List ℕ)
-key_of (item.Event e) = Some e.key
-key_of (item.Side s) = Some s.key
-key_of (item.Frame f) = Some f.key
-key_of (item.Row r) = Some r.key
-key_of (item.Late l) = Some l.event.key
-key_of (item.Mark m) = None
-key_of item.Done = None
 
 -- where data with this key goes
 abbrev pub by_route : Route → List ℕ → List ℕ → Aim

@@ -40,11 +40,11 @@ abbrev pub DealtAfter : Given → View → List Deal → Item → Type 0
 DealtAfter All v deals x = (to : Option ℕ) × Dealt v (deals ++ record { item = x; to = to } ∷ [])
 DealtAfter Again v deals x = Dealt v deals
 
--- a destination that an item is still owed to knows of no free slot; data for any is owed to all
+-- an item is still owed to a destination, which knows of no free slot; data for any is owed to all
 abbrev pub IsStuck : Aim → View → Type 0
 IsStuck Each v = (k : ℕ) × (k < length v.dests) × (get_or (hads v) k true ≡ false) × (get_or (frees v) k 0 ≡ 0)
 IsStuck Any v = NoneFree v 0 (length v.dests)
-IsStuck (Only d) v = get_or (frees v) d 0 ≡ 0
+IsStuck (Only d) v = (d < length v.dests) × (get_or (frees v) d 0 ≡ 0)
 
 abbrev pub IsFull : View → Item → Type 0
 IsFull v x = IsStuck (aim v x) v

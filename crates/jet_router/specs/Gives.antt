@@ -1,5 +1,5 @@
 -- What a gift does, by where the item goes and by the answer.
-use Rattle.std.specs.Prelude.{◌≡◌, ℕ, length, get_or}
+use Rattle.std.specs.Prelude.{◌≡◌, ◌<◌, ℕ, length, get_or}
 use Rattle.jet_items.specs.declared.item.Item.{Item}
 use Rattle.jet_router.specs.declared.Given.{Given}
 use Rattle.jet_router.specs.declared.Given.TheVariants.{All, Again}
@@ -14,4 +14,4 @@ Gives Each Again a b x = Owes a b x
 Gives Any All a b x = (d : ℕ) × SentTo a b d x × TriedFirst a d
 Gives Any Again a b x = (b ≡ a) × NoneFree a 0 (length a.dests)
 Gives (Only d) All a b x = SentTo a b d x
-Gives (Only d) Again a b x = (b ≡ a) × (get_or (frees a) d 0 ≡ 0)
+Gives (Only d) Again a b x = (b ≡ a) × (d < length a.dests) × (get_or (frees a) d 0 ≡ 0)

@@ -1,12 +1,13 @@
 -- What a contract sees of a router.
-use Rattle.std.specs.Prelude.{◌≡◌, ◌≢◌, ℕ, ◌+◌, ◌-◌, ◌<◌, ◌≤◌, List, [], ◌∷◌, ◌++◌, map, Bool, true, false, get_or, set, length, ◌⊎◌, not, if◌then◌else◌, count_by, sum_by}
+use Rattle.std.specs.Prelude.{◌≡◌, ◌≢◌, ℕ, ◌+◌, ◌-◌, ◌<◌, ◌≤◌, List, [], ◌∷◌, ◌++◌, map, Bool, true, false, get_or, set, length, ◌⊎◌, sum_by}
 use Rattle.jet_ring.specs.Ring as ring
 use Rattle.jet_items.specs.declared.item.Item.{Item}
 use Rattle.jet_router.specs.declared.aim.Route.{Route}
 use Rattle.jet_router.specs.declared.aim.Aim.{Aim}
 use Rattle.jet_router.specs.declared.aim.Aim.TheVariants.{Each}
 use Rattle.jet_router.specs.declared.router.Router.{Router}
-use Rattle.jet_router.specs.Aim.{key_of, aim_of}
+use Rattle.jet_items.specs.Partition.{item_key}
+use Rattle.jet_router.specs.Aim.{aim_of}
 use Rattle.jet_router.specs.Dest.{DestView, dest_view, settled_by, HandIs, fresh}
 
 -- its route, with the table of a partitioned one; its destinations; whether an item is in hand that not each destination has had; and the destination that is tried first
@@ -22,7 +23,7 @@ view r = record { route = r.route; table = r.table.items; dests = map dest_view 
 
 -- where an item goes
 abbrev pub aim : View → Item → Aim
-aim v x = aim_of v.route v.table (key_of x)
+aim v x = aim_of v.route v.table (item_key x)
 
 -- of each destination its end, the ring of the end, what was sent there, how many slots are known to be free there, and how far it reaches
 abbrev pub txs : View → List (ring.TxView Item)
@@ -58,10 +59,6 @@ settled_if false ds = map (λ t. t.sent) (map (λ d. d.tx) ds)
 
 abbrev pub settled : View → List (List Item)
 settled v = settled_if v.busy v.dests
-
--- how many destinations have not had the item in hand; 0 where no item is in hand
-abbrev pub owed_count : View → ℕ
-owed_count v = if v.busy then count_by (λ d. not d.had) v.dests else 0
 
 -- x is in hand: it goes to each destination, and those that have had the item in hand have had x last
 abbrev pub IsInHand : View → Item → Type 0

@@ -1,39 +1,46 @@
-// Where an item goes. Data has a key, and goes by the route; what has none goes to each destination.
-ghost use Rattle.std.specs.Prelude.{◌≡◌, length};
-ghost use Rattle.std.specs.Option.{option_copied};
-ghost use Rattle.jet_router.specs.Aim.{key_of, aim_of};
+// Where an item goes. Data goes by the route; a mark and Done go to each destination.
+ghost use Rattle.std.specs.Prelude.{◌≡◌, length, option_map};
+ghost use Rattle.jet_items.specs.Partition.{item_key, key_partition};
+ghost use Rattle.jet_router.specs.Aim.{aim_of};
 
-use jet_items::{Item, Key, partition_of};
+use jet_items::{Item, partition_of};
 
 /// How data is routed.
 #[derive(Clone, Copy)]
 pub(crate) enum Route {
+    /// To one destination that takes it.
     Unicast,
+    /// To each destination.
     Broadcast,
+    /// To the destination of its key's partition.
     Partitioned,
 }
 
-/// The destinations of an item: each, any one that takes it, or the one of this number.
+/// Where an item goes.
 #[derive(Clone, Copy)]
-pub(crate) enum Aim {
+pub enum Aim {
+    /// To each destination.
     Each,
+    /// To any one destination that takes it.
     Any,
+    /// To the destination of this number.
     Only(usize),
 }
 
-// The key of a data item.
-fn key_of(item: &Item) -> Option<&Key>
-    ensures { option_copied result ≡ key_of item.now }
+// The partition of a data item: that of its key, and 0 where it has none.
+fn partition_for(item: &Item) -> Option<u32>
+    ensures { result ≡ option_map key_partition (item_key item.now) }
 {
     match item {
-        Item::Event(event) => Some(&event.key),
-        Item::Side(side) => Some(&side.key),
-        Item::Frame(frame) => Some(&frame.key),
-        Item::Row(row) => Some(&row.key),
+        Item::Event(event) => Some(partition_of(&event.key)),
+        Item::Side(side) => Some(partition_of(&side.key)),
+        Item::Frame(frame) => Some(partition_of(&frame.key)),
+        Item::Row(row) => Some(partition_of(&row.key)),
         Item::Late(late) => {
             let event = &late.event;
-            Some(&event.key)
+            Some(partition_of(&event.key))
         }
+        Item::Idle => Some(0),
         Item::Mark(_) | Item::Done => None,
     }
 }
@@ -41,14 +48,14 @@ fn key_of(item: &Item) -> Option<&Key>
 /// Where an item goes; a partitioned route has a table of the destinations of the 271 partitions.
 pub(crate) fn aim_for(route: Route, table: &[u32], item: &Item) -> Aim
     requires { route ≡ Route.Partitioned → length table.now ≡ 271 }
-    ensures { result ≡ aim_of route table.now (key_of item.now) }
+    ensures { result ≡ aim_of route table.now (item_key item.now) }
 {
-    let Some(key) = key_of(item) else {
+    let Some(partition) = partition_for(item) else {
         return Aim::Each;
     };
     match route {
         Route::Unicast => Aim::Any,
         Route::Broadcast => Aim::Each,
-        Route::Partitioned => Aim::Only(table[partition_of(key) as usize] as usize),
+        Route::Partitioned => Aim::Only(table[partition as usize] as usize),
     }
 }

@@ -9,12 +9,15 @@ mod aim;
 mod dest;
 mod router;
 
+pub use aim::Aim;
 pub use router::Router;
 
-/// Whether an item was given whole: nothing is owed any more, or it is to be given again.
+/// Whether an item was given whole.
 #[derive(Debug, Clone, Copy, PartialEq, Eq)]
 pub enum Given {
+    /// It was sent where it goes, and is owed to no destination any more.
     All,
+    /// It is still owed to a destination, and is to be given again.
     Again,
 }
 

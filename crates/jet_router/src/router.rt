@@ -31,7 +31,7 @@ pub struct Router {
 }
 
 impl Router {
-    ghost use Rattle.std.specs.Prelude.{◌≡◌, ◌≤◌, ◌<◌, ◌^◌, ◌+◌, ◌++◌, ◌↔◌, ℕ, List, get_or, [], ◌∷◌, map, false, true, vec_len, length, slice_get, slice_index, IfOk, IsOk, IsTrue, IsFalse, All};
+    ghost use Rattle.std.specs.Prelude.{◌≡◌, ◌≤◌, ◌<◌, ◌^◌, ◌+◌, ◌++◌, ◌↔◌, ℕ, List, get_or, [], ◌∷◌, map, false, true, vec_len, length, slice_get, slice_index, IfOk, IsOk, IsTrue, IsFalse, All, set};
     ghost use Rattle.std.specs.Borrow.{sem};
     ghost use mathlib.Core.List.{IsPrefix};
     ghost use Rattle.jet_ring.specs.Ring as ring;
@@ -39,7 +39,7 @@ impl Router {
     ghost use Rattle.jet_ring.specs.declared.ends.Tx.{Tx};
     ghost use Rattle.jet_items.specs.declared.item.Item.{Item};
     ghost use Rattle.jet_router.specs.Dest.{served, unserved, starts};
-    ghost use Rattle.jet_router.specs.Router.{view, owed_count, free_count, txs, rings, sents, frees, reaches, aim as aim_at, IsInHand, SentTo, TriedFirst, NoneFree, IsNew, SameRouter, Refreshed};
+    ghost use Rattle.jet_router.specs.Router.{view, free_count, txs, rings, sents, frees, reaches, aim as aim_at, IsInHand, SentTo, TriedFirst, NoneFree, IsNew, SameRouter, Refreshed};
     ghost use Rattle.jet_router.specs.Gives.{Gives};
     ghost use Rattle.jet_router.specs.Deals.{Deal, Dealt, DealtAfter, IsFull};
     ghost use Rattle.jet_router.specs.declared.Given.TheVariants.{All as GivenAll, Again};
@@ -92,22 +92,6 @@ impl Router {
         self.dests.len() as u32
     }
 
-    /// How many destinations the item in hand is owed to, and 0 where no item is in hand.
-    pub fn owed(&self) -> u32
-        ensures { result ≡ owed_count (view self.now) }
-    {
-        if !self.busy {
-            return 0;
-        }
-        let mut owed = 0;
-        for dest in &self.dests {
-            if !dest.had {
-                owed += 1;
-            }
-        }
-        owed
-    }
-
     /// How many items its destinations can be sent in all before the next meetings.
     pub fn free(&self) -> u128
         ensures { result ≡ free_count (view self.now) }
@@ -124,6 +108,11 @@ impl Router {
         requires { dest < length (view self.old).dests }
         ensures* writes_back { sem 𝓛 (LendsTx self.entry dest result) }
         ensures value { slice_get (txs (view self.old)) dest ≡ Some (ring.tx_view result.now) }
+
+        // whatever comes back stands at that destination, and all other ends are as they were
+        ensures ends { (w : Tx Item) → txs (view (with_tx self.old dest result.now w)) ≡ set (txs (view self.old)) dest (ring.tx_view w) }
+        ensures sent { (w : Tx Item) → get_or (sents (view (with_tx self.old dest result.now w))) dest [] ≡ ring.sent w }
+        ensures free { (w : Tx Item) → get_or (frees (view (with_tx self.old dest result.now w))) dest 0 ≡ ring.known_free w }
         ensures meets { (w : Tx Item) → ring.tx_ring w ≡ ring.tx_ring result.now → ring.sent w ≡ ring.sent result.now → Refreshed (view self.old) (view (with_tx self.old dest result.now w)) dest }
     {
         let lent = &mut self.dests[dest as usize];
@@ -300,8 +289,8 @@ impl Router {
         ensures same { SameRouter (view self.old) (view self.new) }
         ensures reach { reaches (view self.new) ≡ reaches (view self.old) }
     {
-        for dest in from..to {
-            if self.offer_at(dest, item) {
+        for number in from..to {
+            if self.offer_at(number, item) {
                 return true;
             }
         }

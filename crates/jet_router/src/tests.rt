@@ -86,21 +86,45 @@ fn a_mark_waits_for_a_full_ring(rt: HostRuntime) -> Result<(), Fail> {
     Ok(())
 }
 
-// The ends of two rings.
+// The ends of a ring of three slots and of one of two.
 fn ends(alloc: Global) -> Option<Vec<Tx<Item>>>
     ensures { IfSome result (λ v. vec_len v ≡ 2) }
 {
-    let (a, _) = ring::<Item>(alloc, 2).ok()?;
+    let (a, _) = ring::<Item>(alloc, 3).ok()?;
     let (b, _) = ring::<Item>(alloc, 2).ok()?;
     Vec::from_array(alloc, [a, b]).ok()
 }
 
-// A partitioned router over two rings, of which the second takes all data.
+// A partitioned router of which the first ring takes partition 0, and the second all others.
 fn partitioned(alloc: Global) -> Option<Router>
     ensures { IfSome result (λ r. (view r).busy ≡ false) }
 {
-    let table = vec![in alloc; 1; 271].ok()?;
+    let mut table = vec![in alloc; 1; 271].ok()?;
+    table[0] = 0;
     Router::partitioned(alloc, ends(alloc)?, table).ok()
+}
+
+#[derive(Clone, Copy)]
+enum Way {
+    Unicast,
+    Isolated,
+    Broadcast,
+    Partitioned,
+}
+
+// A router over these ends; an isolated one has a ring of two slots.
+fn router_of(alloc: Global, way: Way) -> Option<Router>
+    ensures { IfSome result (λ r. (view r).busy ≡ false) }
+{
+    match way {
+        Way::Unicast => Router::unicast(alloc, ends(alloc)?).ok(),
+        Way::Isolated => {
+            let (end, _) = ring::<Item>(alloc, 2).ok()?;
+            Router::isolated(alloc, end).ok()
+        }
+        Way::Broadcast => Router::broadcast(alloc, ends(alloc)?).ok(),
+        Way::Partitioned => partitioned(alloc),
+    }
 }
 
 // How many of six gifts of an item are whole.
@@ -121,19 +145,18 @@ fn each_route_gives_what_its_rings_hold(rt: HostRuntime) -> Result<(), Fail> {
     let alloc = rt.alloc();
     let x = event(b"a", 1).ok_or("key")?;
     let mark = Item::Mark(Mark::new(5).ok_or("range")?);
-    let unicast = Router::unicast(alloc, ends(alloc).ok_or("memory")?)
-        .ok()
-        .ok_or("memory")?;
-    assert_eq!(rt; gifts(unicast, &x), 4);
-    let broadcast = Router::broadcast(alloc, ends(alloc).ok_or("memory")?)
-        .ok()
-        .ok_or("memory")?;
-    assert_eq!(rt; gifts(broadcast, &x), 2);
-    let (end, _) = ring::<Item>(alloc, 2).ok().ok_or("memory")?;
-    let isolated = Router::isolated(alloc, end).ok().ok_or("memory")?;
-    assert_eq!(rt; gifts(isolated, &x), 2);
-    assert_eq!(rt; gifts(partitioned(alloc).ok_or("memory")?, &x), 2);
-    assert_eq!(rt; gifts(partitioned(alloc).ok_or("memory")?, &mark), 2);
+    for (way, item, whole) in [
+        (Way::Unicast, x, 5),
+        (Way::Unicast, Item::Idle, 5),
+        (Way::Isolated, x, 2),
+        (Way::Broadcast, x, 2),
+        (Way::Broadcast, Item::Idle, 2),
+        (Way::Partitioned, x, 2),
+        (Way::Partitioned, Item::Idle, 3),
+        (Way::Partitioned, mark, 2),
+    ] {
+        assert_eq!(rt; gifts(router_of(alloc, way).ok_or("memory")?, &item), whole);
+    }
     Ok(())
 }
 

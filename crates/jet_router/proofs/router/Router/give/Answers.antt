@@ -2,7 +2,8 @@ use Rattle.std.proofs.Common.{◌≡◌, sym, ◌∙◌, ap, subst}
 use Rattle.jet_items.specs.declared.item.Item.{Item}
 use Rattle.jet_router.specs.declared.aim.Aim.{Aim}
 use Rattle.jet_router.specs.declared.aim.Aim.TheVariants.{Each, Any, Only}
-use Rattle.jet_router.specs.Aim.{key_of, aim_of}
+use Rattle.jet_items.specs.Partition.{item_key}
+use Rattle.jet_router.specs.Aim.{aim_of}
 use Rattle.jet_router.specs.Router.{View, view, aim}
 use Rattle.jet_router.specs.Gives.{Gives}
 use Rattle.jet_router.proofs.Gifts.{ServedEach, same_served, reach_served, fewer_served, more_served, gives_each, in_hand_given}
@@ -26,7 +27,7 @@ gave_each c =
     let old : View = view c.args.self.now in
     let new : View = view c.give_each.new.self in
     let x : Item = c.args.item.now in
-    let aimed : aim old x ≡ Each = ap (λ t. aim_of c.args.self.now.route t (key_of x)) (sym c.deref.ensures.value) ∙ sym c.in-Each.ensures in (
+    let aimed : aim old x ≡ Each = ap (λ t. aim_of c.args.self.now.route t (item_key x)) (sym c.deref.ensures.value) ∙ sym c.in-Each.ensures in (
       aimed,
       gives_each old new x (served_each c) c.give_each.result aimed c.requires.pending c.give_each.ensures.all c.give_each.ensures.again,
     )
@@ -69,12 +70,12 @@ returns-in-Any-clause-more c = more_any c.give_any.result (view c.args.self.now)
 
 pub returns-in-Any-clause-dealt : goal.returns-in-Any-clause-dealt
 returns-in-Any-clause-dealt c =
-    let aimed : aim (view c.args.self.now) c.args.item.now ≡ Any = ap (λ t. aim_of c.args.self.now.route t (key_of c.args.item.now)) (sym c.deref.ensures.value) ∙ sym c.in-Any.ensures in
+    let aimed : aim (view c.args.self.now) c.args.item.now ≡ Any = ap (λ t. aim_of c.args.self.now.route t (item_key c.args.item.now)) (sym c.deref.ensures.value) ∙ sym c.in-Any.ensures in
     gift_dealt Any c.give_any.result (view c.args.self.now) (view c.give_any.new.self) c.args.item.now aimed c.give_any.ensures.gives c.give_any.ensures.same c.requires.pending
 
 pub returns-in-Any-clause-stuck : goal.returns-in-Any-clause-stuck
 returns-in-Any-clause-stuck c =
-    let aimed : aim (view c.args.self.now) c.args.item.now ≡ Any = ap (λ t. aim_of c.args.self.now.route t (key_of c.args.item.now)) (sym c.deref.ensures.value) ∙ sym c.in-Any.ensures in
+    let aimed : aim (view c.args.self.now) c.args.item.now ≡ Any = ap (λ t. aim_of c.args.self.now.route t (item_key c.args.item.now)) (sym c.deref.ensures.value) ∙ sym c.in-Any.ensures in
     gift_stuck Any c.give_any.result (view c.args.self.now) (view c.give_any.new.self) c.args.item.now aimed c.give_any.ensures.gives c.give_any.ensures.same tt
 
 pub returns-in-Only-clause-more : goal.returns-in-Only-clause-more
@@ -82,10 +83,10 @@ returns-in-Only-clause-more c = more_only c.in-Only.dest c.give_only.result (vie
 
 pub returns-in-Only-clause-dealt : goal.returns-in-Only-clause-dealt
 returns-in-Only-clause-dealt c =
-    let aimed : aim (view c.args.self.now) c.args.item.now ≡ Only c.in-Only.dest = ap (λ t. aim_of c.args.self.now.route t (key_of c.args.item.now)) (sym c.deref.ensures.value) ∙ sym c.in-Only.ensures in
+    let aimed : aim (view c.args.self.now) c.args.item.now ≡ Only c.in-Only.dest = ap (λ t. aim_of c.args.self.now.route t (item_key c.args.item.now)) (sym c.deref.ensures.value) ∙ sym c.in-Only.ensures in
     gift_dealt (Only c.in-Only.dest) c.give_only.result (view c.args.self.now) (view c.give_only.new.self) c.args.item.now aimed c.give_only.ensures.gives c.give_only.ensures.same c.requires.pending
 
 pub returns-in-Only-clause-stuck : goal.returns-in-Only-clause-stuck
 returns-in-Only-clause-stuck c =
-    let aimed : aim (view c.args.self.now) c.args.item.now ≡ Only c.in-Only.dest = ap (λ t. aim_of c.args.self.now.route t (key_of c.args.item.now)) (sym c.deref.ensures.value) ∙ sym c.in-Only.ensures in
+    let aimed : aim (view c.args.self.now) c.args.item.now ≡ Only c.in-Only.dest = ap (λ t. aim_of c.args.self.now.route t (item_key c.args.item.now)) (sym c.deref.ensures.value) ∙ sym c.in-Only.ensures in
     gift_stuck (Only c.in-Only.dest) c.give_only.result (view c.args.self.now) (view c.give_only.new.self) c.args.item.now aimed c.give_only.ensures.gives c.give_only.ensures.same tt

@@ -1,4 +1,4 @@
-use Rattle.std.proofs.Common.{◌≡◌, ◌<◌, List, ◌∙◌, ap, refl, length, map, arith, get_or, false, Some, slice_get}
+use Rattle.std.proofs.Common.{◌≡◌, [], ◌<◌, List, ◌∙◌, ap, refl, length, map, arith, get_or, false, Some, slice_get}
 use Rattle.std.specs.Vec.{with_item}
 use Rattle.std.specs.Option.{option_map}
 use Rattle.std.proofs.lemmas.List.{length-map, get_or_default}
@@ -7,7 +7,7 @@ use Rattle.jet_router.specs.declared.dest.Dest.{Dest}
 use Rattle.jet_router.specs.Dest.{DestView, dest_view}
 use Rattle.jet_ring.specs.Ring.{tx_view}
 use Rattle.jet_router.specs.Router.{view, txs}
-use Rattle.jet_router.proofs.Lent.{refreshed-with_tx}
+use Rattle.jet_router.proofs.Lent.{txs-with_tx, at-with_tx, refreshed-with_tx}
 use Rattle.jet_router.proofs.Same.{same_router}
 use Rattle.jet_router.proofs.router.Router.tx.Goals as goal
 
@@ -34,6 +34,9 @@ returns c =
       record {
         writes_back = tt;
         value = value;
+        ends = λ w. txs-with_tx c.args.self.now c.args.dest was.tx w;
+        sent = λ w. at-with_tx (λ t. t.sent) c.args.self.now c.args.dest was.tx w [] value;
+        free = λ w. at-with_tx (λ t. t.free) c.args.self.now c.args.dest was.tx w 0 value;
         meets = λ w ring sent. refreshed-with_tx c.args.self.now c.args.dest was.tx w value ring sent;
       },
     )
