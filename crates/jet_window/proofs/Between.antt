@@ -14,23 +14,11 @@ use Rattle.std.proofs.lemmas.List.Elements.{All-weaker, All-push, All-append, Al
 use Rattle.jet_items.specs.Grid.{IsEndFor, in_window}
 use Rattle.jet_items.specs.Rows.{Window, Inflow, IsRowOf, IsAccOf, HasRow, AreRows, first_value, members, row_cmp}
 use Rattle.jet_items.specs.Values.{EventValue, RowValue}
+use Rattle.jet_items.proofs.Covering.{Decides-int_lt, Decides-int_le, Decides-in_window, false_from}
 use Rattle.jet_window.specs.Plain.{RowsBetween, RowsUpTo, is_between}
 use Rattle.jet_window.specs.PlainLaws.{ClosedRowsStay, RowsFollow, RowsEnd}
 
 -- ---- tests on whole numbers
-pub Decides-int_lt : (a b : ℤ) → Decides (int_lt a b) (a <ℤ b)
-Decides-int_lt a b = (λ h. grind (arith, ints), λ h. grind (arith, ints))
-
-pub Decides-int_le : (a b : ℤ) → Decides (int_le a b) (a ≤ℤ b)
-Decides-int_le a b = (λ h. grind (arith, ints), λ h. grind (arith, ints))
-
-pub Decides-in_window : (size e ts : ℤ) → Decides (in_window size e ts) (((e -ℤ size) ≤ℤ ts) × (ts <ℤ e))
-Decides-in_window size e ts = Decides-and (int_le (e -ℤ size) ts) (int_lt ts e) (Decides-int_le (e -ℤ size) ts) (Decides-int_lt ts e)
-
-pub false_from : {P : Type 0} (b : Bool) → Decides b P → (P → ⊥) → b ≡ false
-false_from true d h = absurd (h (d.0 refl))
-false_from false d h = refl
-
 after_decides : (after : Option ℤ) (e : ℤ) → Decides (option_map_or (λ m. int_lt m e) after true) (IfSome after (λ m. m <ℤ e))
 after_decides None e = (λ h. tt, λ h. refl)
 after_decides (Some m) e = Decides-int_lt m e

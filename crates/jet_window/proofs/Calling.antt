@@ -11,25 +11,16 @@ use Rattle.jet_items.specs.declared.no_memory.NoMemory.{NoMemory}
 use Rattle.jet_boxes.specs.Entry.{Entry, Given, Told, Closed, Finish, IsData}
 use Rattle.jet_boxes.specs.Calls.{Call, Outcome}
 use Rattle.jet_boxes.specs.Held.{Held}
+use Rattle.jet_window.specs.CombineCalls.{Stands, Amid, Alike}
 use Rattle.jet_window.specs.declared.combine.CombineP.{CombineP}
 use Rattle.jet_window.specs.Tables.{Place, place_cmp}
 use Rattle.jet_window.specs.FrameTables.{Table, joined_in, IsKept}
-use Rattle.jet_window.specs.Combining.{Clear, Passes}
-use Rattle.jet_window.specs.CombineStands.{Combine, CombineStands, CombineAmid, Gave, Finishing}
-use Rattle.jet_window.proofs.Promising.{IsFrame}
+use Rattle.jet_window.specs.Combining.{Clear, Passes, OpenAbove}
+use Rattle.jet_window.specs.CombineStands.{IsFrame, Combine, CombineStands, CombineAmid, Gave, Finishing}
 use Rattle.jet_window.proofs.Standing.{marking_gave, finishing_gave, stands_mark, stands_finish, stands_frame, stands_pass, stands_close}
 use Rattle.jet_window.specs.CombineView.{combine_of}
 use Rattle.jet_window.proofs.Tabling.{place_total, place_equal, total-joined_in, ordered_insert, each_insert}
 use Rattle.jet_window.proofs.Giving.{same_combine}
-
-abbrev pub Stands : CombineP → List Entry → List Item → Type 0
-Stands p taken given = CombineStands (combine_of p) taken given
-
-abbrev pub Amid : CombineP → List Entry → Entry → List Item → Type 0
-Amid p taken entry given = CombineAmid (combine_of p) taken entry given
-
-abbrev pub Alike : CombineP → CombineP → Type 0
-Alike p q = (q.vertex ≡ p.vertex) × (q.policy ≡ p.policy)
 
 not_true : false ≡ true → ⊥
 not_true h = absurd (cc)
@@ -57,11 +48,11 @@ mark_partial p q t before after r policy gave bound room not full = record {
 }
 
 pub mark_whole : (p q s : CombineP) (t : ℤ) (before middle after : Held) → q.policy ≡ p.policy → Gave (combine_of p) before.items (combine_of q) middle.items → (Passes p.passed t → Passes q.passed t) → middle.room ≡ before.room
-    → q.ready.entries ≡ [] → Clear q.policy.size q.policy.slide q.passed q.held.entries t
+    → q.ready.entries ≡ [] → Clear q.policy.size q.policy.slide q.passed q.held.entries t → OpenAbove q.policy.size q.policy.slide t q.held.entries
     → s.vertex ≡ q.vertex → s.policy ≡ q.policy → s.passed ≡ Some t → s.end ≡ q.end → s.held ≡ q.held → s.ready ≡ q.ready
     → after.room ≡ middle.room → after.items ≡ middle.items ++ item.Mark t ∷ []
     → Call Stands Amid Alike false p (Told t) before (Ok true) s after
-mark_whole p q s t before middle after policy gave bound room none clear v o w e h r room' items =
+mark_whole p q s t before middle after policy gave bound room none clear above v o w e h r room' items =
     let same : record (combine_of q) { passed = Some t } ≡ combine_of s = same_combine _ _ _ _ _ _ _ _ _ _ _ _ _ _ (sym v) (sym (ap (λ x. x.size) o)) (sym (ap (λ x. x.slide) o)) (sym w) (sym e) (sym (ap (λ x. x.entries) h)) (sym (ap (λ x. x.entries) r)) in
     record {
       put = gave.put ++ item.Mark t ∷ [];
@@ -73,7 +64,7 @@ mark_whole p q s t before middle after policy gave bound room none clear v o w e
       keeps = λ taken given k.
           subst (λ (xs : List Item). CombineStands (combine_of s) (taken ++ Told t ∷ []) xs) (append_assoc given gave.put (item.Mark t ∷ []))
           (subst (λ (z : Combine). CombineStands z (taken ++ Told t ∷ []) ((given ++ gave.put) ++ item.Mark t ∷ [])) same
-          (stands_mark (combine_of q) taken t (given ++ gave.put) none clear (marking_gave (combine_of p) before.items (combine_of q) middle.items taken t given gave bound k)));
+          (stands_mark (combine_of q) taken t (given ++ gave.put) none clear above (marking_gave (combine_of p) before.items (combine_of q) middle.items taken t given gave bound k)));
     }
   where
     never : (let yes : Result Bool NoMemory = Ok true in yes ≡ Ok false) → ⊥
@@ -116,7 +107,8 @@ frame_call p s port queue f before range v o w e r h =
       keeps = λ taken given k. subst (λ (z : Combine). CombineStands z (taken ++ Given port queue (item.Frame f) ∷ []) (given ++ [])) same
           (stands_frame (combine_of p) taken given port queue f new
           (λ d key kept. total-joined_in (λ z. bytes_eq z.1 key && covers p.policy.size d z.0) (f.end, f.key) f.acc p.held.entries kept.ordered)
-          (grows p.policy.size p.held.entries f range) k);
+          (grows p.policy.size p.held.entries f range)
+          (λ P old here. each_insert place_cmp place_total place_equal P (f.end, f.key) _ p.held.entries old here) k);
     }
   where
     never : (let yes : Result Bool NoMemory = Ok true in yes ≡ Ok false) → ⊥
@@ -142,6 +134,7 @@ not_frame (item.Side e) h k = k
 not_frame (item.Frame f) h k = h f refl
 not_frame (item.Row e) h k = k
 not_frame (item.Late e) h k = k
+not_frame item.Idle h k = k
 not_frame (item.Mark e) h k = k
 not_frame item.Done h k = k
 

@@ -30,6 +30,7 @@ comes takes taken (item.Side e) h t = (Each-more IsPlain NotFinish plain_open ta
 comes takes taken (item.Frame e) h t = (Each-more IsPlain NotFinish plain_open taken h, t, tt, Each-more IsPlain (NotClosed Stream 0) plain_closed taken h)
 comes takes taken (item.Row e) h t = (Each-more IsPlain NotFinish plain_open taken h, t, tt, Each-more IsPlain (NotClosed Stream 0) plain_closed taken h)
 comes takes taken (item.Late e) h t = (Each-more IsPlain NotFinish plain_open taken h, t, tt, Each-more IsPlain (NotClosed Stream 0) plain_closed taken h)
+comes takes taken item.Idle h t = (Each-more IsPlain NotFinish plain_open taken h, t, tt, Each-more IsPlain (NotClosed Stream 0) plain_closed taken h)
 comes takes taken (item.Mark t') h t = Each-more IsPlain NotFinish plain_open taken h
 comes takes taken item.Done h t = Each-more IsPlain NotFinish plain_open taken h
 

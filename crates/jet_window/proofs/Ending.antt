@@ -1,5 +1,5 @@
 -- Window ends above a time.
-use Rattle.std.proofs.Common.{◌≡◌, ℕ, Bool, true, false, cond, ℤ, pos, ◌+ℤ◌, ◌-ℤ◌, ◌<ℤ◌, ◌≤ℤ◌, List, [], ◌∷◌, Option, Some, None, refl, sym, ◌∙◌, subst, arith, ◌&&◌}
+use Rattle.std.proofs.Common.{◌≡◌, ℕ, Bool, true, false, cond, ℤ, pos, ◌+ℤ◌, ◌-ℤ◌, ◌<ℤ◌, ◌≤ℤ◌, List, [], ◌∷◌, ◌++◌, append_assoc, Option, Some, None, refl, sym, ◌∙◌, ap, subst, arith, ◌&&◌}
 use Rattle.std.specs.Prelude.{int_le, int_lt, bytes_eq, slice_get, length, ◌<◌, IsSome, IfSome}
 use Rattle.std.specs.declared.cmp.Ordering.{Ordering}
 use Rattle.std.specs.declared.cmp.Ordering.TheVariants.{Less, Equal, Greater}
@@ -11,18 +11,20 @@ use Rattle.std.specs.Ordering.{nat_cmp, ordering_then}
 use Rattle.std.proofs.lemmas.Int.{ints, by_lt_z}
 use Rattle.std.proofs.lemmas.Bool.Decides.{Decides-int_eq}
 use Rattle.jet_items.specs.Grid.{IsMultiple, IsFrameEnd, IsFloor, floor_to}
-use Rattle.jet_items.proofs.GridLemmas.{floor_is, rem_bounds}
+use Rattle.std.proofs.lemmas.Slice.Eq.{bytes_eq-Decides}
+use Rattle.jet_policy.specs.Policy.{IsPolicy}
+use Rattle.jet_items.proofs.GridLemmas.{floor_is, frame_end_is, multiple_apart, rem_bounds}
 use Rattle.jet_items.proofs.Covering.{Decides-int_lt, Decides-int_le, Decides-covers, false_from, not_so}
 use Rattle.jet_items.specs.Values.{AccValue}
-use Rattle.jet_items.specs.Totals.{total}
+use Rattle.jet_items.specs.Totals.{both, total}
 use Rattle.jet_items.specs.Frames.{only, covers}
 use Rattle.jet_items.specs.Order.{Each}
 use Rattle.jet_window.specs.Tables.{Place, place_cmp}
 use Rattle.jet_window.specs.FrameTables.{Table, held_in, Ordered, IsKept}
 use Rattle.jet_window.specs.Tables.{is_multiple}
-use Rattle.jet_window.specs.Taken.{is_due}
+use Rattle.jet_window.specs.Taken.{is_due, InOpenWindow}
 use Rattle.jet_window.specs.Combining.{Forgets}
-use Rattle.jet_window.specs.NextEnds.{IsEndAbove, IsNextEnd}
+use Rattle.jet_window.specs.NextEnds.{IsEndAbove, IsNextEnd, HeldUntil}
 
 -- the test and the fact
 pub multiple_test : (slide e : ℤ) → pos 1 ≤ℤ slide → IsMultiple slide e → is_multiple slide e ≡ true
@@ -82,13 +84,20 @@ pub forget_first : (size slide : ℤ) (passed : Option ℤ) (f : Place × AccVal
 forget_first size slide passed f fs e up le = record {
   leaves = λ d key m b. rw (stale size slide passed f.0.0 e d (bytes_eq f.0.1 key) f.1 up le m b) refl;
   kept = λ h. record { ordered = h.ordered.1; ranges = h.ranges.1 };
+  first = f ∷ [];
+  held_is = refl;
 }
 
 pub Forgets-refl : (size slide : ℤ) (passed : Option ℤ) (held : Table) → Forgets size slide passed held held
-Forgets-refl size slide passed held = record { leaves = λ d key m b. refl; kept = λ h. h }
+Forgets-refl size slide passed held = record { leaves = λ d key m b. refl; kept = λ h. h; first = []; held_is = refl }
 
 pub Forgets-trans : (size slide : ℤ) (passed : Option ℤ) (a b c : Table) → Forgets size slide passed a b → Forgets size slide passed b c → Forgets size slide passed a c
-Forgets-trans size slide passed a b c h k = record { leaves = λ d key m n. k.leaves d key m n ∙ h.leaves d key m n; kept = λ x. k.kept (h.kept x) }
+Forgets-trans size slide passed a b c h k = record {
+  leaves = λ d key m n. k.leaves d key m n ∙ h.leaves d key m n;
+  kept = λ x. k.kept (h.kept x);
+  first = h.first ++ k.first;
+  held_is = h.held_is ∙ (ap (λ (t : Table). h.first ++ t) k.held_is ∙ sym (append_assoc h.first k.first c));
+}
 
 -- below the first end no window has a frame
 pub none_below : (size d : ℤ) (key : List ℕ) (held : Table) → Each (λ (f : Place × AccValue). d <ℤ f.0.0) held → total (held_in size d key) held ≡ None
@@ -127,8 +136,63 @@ above_first d (g ∷ gs) f h k lt =
     let here : d <ℤ g.0.0 = subst (λ (z : Place × AccValue). d <ℤ z.0.0) (sym is) lt in
     (here, Each-more (λ (z : Place × AccValue). place_cmp g.0 z.0 ≡ Less) (λ (z : Place × AccValue). d <ℤ z.0.0) (λ z m. let le : g.0.0 ≤ℤ z.0.0 = place_less g.0 z.0 m in omega (arith, ints)) gs k.0)
 
-pub next_end_is : (size slide : ℤ) (passed : Option ℤ) (held : Table) (f : Place × AccValue) (e : ℤ) → slice_get held 0 ≡ Some f → IsKept held → IsEndAbove slide passed f.0.0 e → e <ℤ (f.0.0 +ℤ size) → size ≤ℤ pos 1000000000000 → IsNextEnd size slide passed held e
-next_end_is size slide passed held f e first kept up lt most =
+-- ---- windows of a frame
+pub whole_multiple : (size slide : ℤ) → IsPolicy size slide → IsMultiple slide size
+whole_multiple size slide grid = multiple_fact slide size grid.slide_low ((Decides-int_eq (int_rem_euclid size slide) (pos 0)).1 grid.whole)
+
+whole_slide : (size slide : ℤ) → IsPolicy size slide → slide ≤ℤ size
+whole_slide size slide grid =
+    let none : IsMultiple slide (pos 0) = (pos 0, omega (arith, ints)) in
+    let low = grid.size_low in
+    let apart : (pos 0 +ℤ slide) ≤ℤ size = multiple_apart slide (pos 0) size grid.slide_low none (whole_multiple size slide grid) (omega (arith, ints)) in
+    omega (arith, ints)
+
+-- a frame lies in a window that ends no earlier than the frame
+pub window_above : (size slide end : ℤ) → IsPolicy size slide → (e : ℤ) × (is_multiple slide e ≡ true) × (covers size e end ≡ true) × (end ≤ℤ e)
+window_above size slide end grid =
+    let e : ℤ = floor_to slide (end -ℤ pos 1) +ℤ slide in
+    let floor : IsFloor slide (end -ℤ pos 1) (floor_to slide (end -ℤ pos 1)) = floor_is slide (end -ℤ pos 1) grid.slide_low in
+    let next : IsFrameEnd slide (end -ℤ pos 1) e = frame_end_is slide (end -ℤ pos 1) grid.slide_low in
+    let low : floor_to slide (end -ℤ pos 1) ≤ℤ (end -ℤ pos 1) = floor.at_most in
+    let above : (end -ℤ pos 1) <ℤ e = next.above in
+    let most : slide ≤ℤ size = whole_slide size slide grid in
+    let later : end ≤ℤ e = omega (arith, ints) in
+    let within : (e -ℤ size) <ℤ end = omega (arith, ints) in
+    (e, multiple_test slide e grid.slide_low next.multiple, (Decides-covers size e end).1 (within, later), later)
+
+not_before : (d e : ℤ) → e ≤ℤ d → int_lt d e ≡ false
+not_before d e h = false_from (int_lt d e) (Decides-int_lt d e) (λ lt. absurd (omega (arith, ints)))
+
+held_until : (size slide e start : ℤ) (held : Table) → IsPolicy size slide → is_multiple slide e ≡ true → e <ℤ (start +ℤ size) → Each (λ (g : Place × AccValue). start ≤ℤ g.0.0) held → HeldUntil size slide e held
+held_until size slide e start [] grid m lt h = tt
+held_until size slide e start (g ∷ gs) grid m lt h = (by_lt_z e g.0.0 later here, held_until size slide e start gs grid m lt h.1)
+  where
+    later : e <ℤ g.0.0 → InOpenWindow size slide (λ d. int_lt d e) g.0.0
+    later below = let w = window_above size slide g.0.0 grid in let high : g.0.0 ≤ℤ w.0 = w.3 in (w.0, w.1, w.2, not_before w.0 e (omega (arith, ints)))
+
+    here : g.0.0 ≤ℤ e → InOpenWindow size slide (λ d. int_lt d e) g.0.0
+    here above = let first : start ≤ℤ g.0.0 = h.0 in (e, m, (Decides-covers size e g.0.0).1 (omega (arith, ints), above), not_before e e (omega (arith, ints)))
+
+some_left : (a : AccValue) (t : Option AccValue) → both (Some a) t ≡ None → ⊥
+some_left a None h = absurd (cc)
+some_left a (Some b) h = absurd (cc)
+
+-- a window of the first frame is not empty
+first_has : (size e : ℤ) (held : Table) (f : Place × AccValue) → slice_get held 0 ≡ Some f → covers size e f.0.0 ≡ true → total (held_in size e f.0.1) held ≡ None → ⊥
+first_has size e [] f h c n = none_some h
+  where
+    none_some : None ≡ Some f → ⊥
+    none_some e = absurd (cc)
+first_has size e (g ∷ gs) f h c n =
+    let is : g ≡ f = cc in
+    let here : covers size e g.0.0 ≡ true = subst (λ (z : Place × AccValue). covers size e z.0.0 ≡ true) (sym is) c in
+    let key : bytes_eq g.0.1 f.0.1 ≡ true = (bytes_eq-Decides g.0.1 f.0.1).1 (ap (λ (z : Place × AccValue). z.0.1) is) in
+    let brings : held_in size e f.0.1 g ≡ Some g.1 = rw (key, here) refl in
+    some_left g.1 (total (held_in size e f.0.1) gs) (ap (λ (o : Option AccValue). both o (total (held_in size e f.0.1) gs)) (sym brings) ∙ n)
+
+pub next_end_is : (size slide : ℤ) (passed : Option ℤ) (held : Table) (f : Place × AccValue) (e : ℤ) → slice_get held 0 ≡ Some f → IsKept held → IsEndAbove slide passed f.0.0 e → e <ℤ (f.0.0 +ℤ size) → IsPolicy size slide → IsNextEnd size slide passed held e
+next_end_is size slide passed held f e first kept up lt grid =
+    let most : size ≤ℤ pos 1000000000000 = grid.size_high in
     let range : IsWithin most_frame_end f.0.0 = first_each (λ (g : Place × AccValue). IsWithin most_frame_end g.0.0) held f first kept.ranges in
     let low : f.0.0 ≤ℤ e = up.at_least in
     let a = range.0 in
@@ -139,6 +203,9 @@ next_end_is size slide passed held f e first kept up lt most =
       skips = λ d key m n below.
           let under : d <ℤ f.0.0 = by_lt_z d f.0.0 (λ k. k) (λ k. let le : e ≤ℤ d = up.least d m n k in absurd (omega (arith, ints))) in
           none_below size d key held (above_first d held f first kept.ordered under);
+      has = (f.0.1, first_has size e held f first ((Decides-covers size e f.0.0).1 (omega (arith, ints), low)));
+      reaches = held_until size slide e f.0.0 held grid up.multiple lt
+          (Each-more (λ (g : Place × AccValue). (f.0.0 -ℤ pos 1) <ℤ g.0.0) (λ (g : Place × AccValue). f.0.0 ≤ℤ g.0.0) (λ g k. omega (arith, ints)) held (above_first (f.0.0 -ℤ pos 1) held f first kept.ordered (omega (arith, ints))));
       range = (omega (arith, ints), omega (arith, ints));
       low = omega (arith, ints);
     }

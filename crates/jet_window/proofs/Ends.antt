@@ -11,7 +11,7 @@ use Rattle.jet_policy.specs.Policy.{IsPolicy}
 use Rattle.jet_policy.proofs.LastEnd.{slide_le_size}
 use Rattle.jet_window.specs.Plain.{is_open}
 use Rattle.jet_window.specs.Tables.{IsFirstEnd, IsLastDue}
-use Rattle.jet_window.proofs.Between.{Decides-int_lt}
+use Rattle.jet_items.proofs.Covering.{Decides-int_lt}
 use Rattle.jet_window.proofs.Members.{filter_both}
 
 pub first_alone : (slide ts r : ℤ) → IsFrameEnd slide ts r → IsFirstEnd slide None ts r

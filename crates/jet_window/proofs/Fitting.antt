@@ -28,7 +28,7 @@ due_more (Some p) e d h k =
     let le : d ≤ℤ p = (Decides-int_le d p).0 k in
     by_lt_z d e (λ lt. lt) (λ above. absurd (not_so (int_le e p) (Decides-int_le e p) h (omega (arith, ints))))
 
-not_due_above : (passed : Option ℤ) (e d : ℤ) → is_due passed e ≡ false → e ≤ℤ d → is_due passed d ≡ false
+pub not_due_above : (passed : Option ℤ) (e d : ℤ) → is_due passed e ≡ false → e ≤ℤ d → is_due passed d ≡ false
 not_due_above None e d h k = refl
 not_due_above (Some p) e d h k = false_from (int_le d p) (Decides-int_le d p) (λ le. not_so (int_le e p) (Decides-int_le e p) h (omega (arith, ints)))
 
@@ -121,7 +121,7 @@ ready_within : (vertex : ℕ) (e : ℤ) (ready : List (List ℕ × AccValue)) �
 ready_within vertex e [] = tt
 ready_within vertex e (p ∷ ps) = (le_true e e (omega (arith, ints)), ready_within vertex e ps)
 
-less_then : (a b : ℤ) (o : Ordering) → a <ℤ b → ordering_then (int_cmp a b) o ≡ Less
+pub less_then : (a b : ℤ) (o : Ordering) → a <ℤ b → ordering_then (int_cmp a b) o ≡ Less
 less_then a b o h = rw ((Decides-int_lt a b).1 h) refl
 
 same_then : (a : ℤ) (o : Ordering) → o ≡ Less → ordering_then (int_cmp a a) o ≡ Less

@@ -1,12 +1,13 @@
 -- The calls of a frame vertex, whole.
 use Rattle.std.proofs.Common.{◌≡◌, ℕ, Bool, true, false, ◌&&◌, ℤ, pos, ◌≤ℤ◌, List, [], ◌∷◌, ◌++◌, map, Option, Some, Result, Ok, Err, refl, sym, ◌∙◌, ap, subst, arith, length, append-nil, append_assoc}
-use Rattle.std.specs.Prelude.{bytes_eq, IsErr}
+use Rattle.std.specs.Prelude.{bytes_eq, slice_index_or, IsErr}
+use Rattle.std.specs.List.{AllByRecursion}
 use Rattle.std.proofs.lemmas.Int.{ints}
 use Rattle.jet_items.specs.Order.{Each}
-use Rattle.jet_items.proofs.Orders.{Each-back}
+use Rattle.jet_items.proofs.Orders.{Each-back, Each-more}
 use Rattle.std.specs.Ordering.{int_eq}
 use Rattle.jet_items.specs.Frames.{only, frame_end, frame_at, event_at}
-use Rattle.jet_items.specs.Ranges.{IsWithin, most_frame_end}
+use Rattle.jet_items.specs.Ranges.{IsWithin, most_time, most_frame_end}
 use Rattle.jet_items.specs.Rows.{first_value}
 use Rattle.jet_items.specs.Totals.{one, both, total}
 use Rattle.jet_items.specs.Values.{AccValue, EventValue, LateValue}
@@ -18,24 +19,17 @@ use Rattle.jet_boxes.specs.declared.port.Port.{Port}
 use Rattle.jet_boxes.specs.Calls.{Call}
 use Rattle.jet_boxes.specs.Entry.{Entry, Given, Told, Closed, Finish, IsData}
 use Rattle.jet_boxes.specs.Held.{Held}
+use Rattle.jet_window.specs.FrameCalls.{Stands, Amid, Alike}
 use Rattle.jet_window.specs.declared.frame.FrameP.{FrameP}
 use Rattle.jet_window.specs.FrameMoves.{Moved, StopsAbove}
-use Rattle.jet_window.specs.FrameStands.{FrameStands}
+use Rattle.jet_window.specs.FrameStands.{FrameStands, IsEvent}
 use Rattle.jet_window.specs.FrameTables.{Table, joined_in, frame_of, IsKept}
 use Rattle.jet_window.specs.LateEvents.{is_late}
 use Rattle.jet_window.specs.Tables.{Place, place_cmp}
-use Rattle.jet_window.specs.Taken.{is_due}
-use Rattle.jet_window.proofs.Framing.{IsEvent, frames_given, frame_mark, frame_close, frame_finish, frame_pass, frame_late, frame_kept, kept_above}
+use Rattle.jet_window.specs.Passing.{told_due, finish_due, due_before}
+use Rattle.jet_window.specs.Taken.{is_due, due_after}
+use Rattle.jet_window.proofs.Framing.{frames_given, frame_mark, frame_close, frame_finish, frame_pass, frame_late, frame_kept, kept_above}
 use Rattle.jet_window.proofs.Tabling.{place_total, place_equal, total-joined_in, ordered_insert, each_insert, length_insert}
-
-abbrev pub Stands : FrameP → List Entry → List Item → Type 0
-Stands p taken given = FrameStands p.vertex p.policy.slide p.last p.held.entries taken given
-
-abbrev pub Amid : FrameP → List Entry → Entry → List Item → Type 0
-Amid p taken entry given = FrameStands p.vertex p.policy.slide p.last p.held.entries taken given
-
-abbrev pub Alike : FrameP → FrameP → Type 0
-Alike p q = (q.vertex ≡ p.vertex) × (q.policy ≡ p.policy)
 
 not_false : true ≡ false → ⊥
 not_false h = absurd (cc)
@@ -45,7 +39,7 @@ ok_apart h = absurd (cc)
 
 -- an item was put, or there was no room
 pub put_call : (p : FrameP) (entry : Entry) (x : Item) (before after : Held) (b : Bool) → (b ≡ true → after ≡ record before { items = before.items ++ x ∷ [] }) → (b ≡ false → after ≡ before) → (b ≡ false → length before.items ≡ before.room)
-    → ((taken : List Entry) (given : List Item) → Stands p taken given → Stands p (taken ++ entry ∷ []) (given ++ x ∷ [])) → Call Stands Amid Alike false p entry before (Ok b) p after
+    → ((taken : List Entry) (given : List Item) → Amid p taken entry given → Stands p (taken ++ entry ∷ []) (given ++ x ∷ [])) → Call Stands Amid Alike false p entry before (Ok b) p after
 put_call p entry x before after true gave none full step = record {
   put = x ∷ [];
   settings = (refl, refl);
@@ -62,42 +56,50 @@ put_call p entry x before after false gave none full step = record {
   puts = ap (λ (b : Held). b.items) (none refl) ∙ sym (append-nil before.items);
   full = λ e. subst (λ (b : Held). length b.items ≡ b.room) (sym (none refl)) (full refl);
   wants = tt;
-  keeps = λ taken given h. subst (Stands p taken) (sym (append-nil given)) h;
+  keeps = λ taken given h. subst (Amid p taken entry) (sym (append-nil given)) h;
 }
 
--- after some frames were put
-moved : (p q : FrameP) (before after : List Item) (m : Moved p.vertex p.held.entries before q.held.entries after) → q.vertex ≡ p.vertex → q.policy ≡ p.policy → q.last ≡ p.last → (taken : List Entry) (given : List Item) → Stands p taken given → Stands q taken (given ++ map (λ f. item.Frame (frame_of p.vertex f)) m.first)
-moved p q before after m v o l taken given h =
-    let xs : List Item = given ++ map (λ f. item.Frame (frame_of p.vertex f)) m.first in
-    let one : FrameStands p.vertex p.policy.slide p.last q.held.entries taken xs = frames_given p.vertex p.policy.slide p.last m.first q.held.entries taken given (subst (λ (t : Table). FrameStands p.vertex p.policy.slide p.last t taken given) m.held h) in
-    let two : FrameStands q.vertex p.policy.slide p.last q.held.entries taken xs = subst (λ (n : ℕ). FrameStands n p.policy.slide p.last q.held.entries taken xs) (sym v) one in
-    let three : FrameStands q.vertex q.policy.slide p.last q.held.entries taken xs = subst (λ (s : ℤ). FrameStands q.vertex s p.last q.held.entries taken xs) (sym (ap (λ x. x.slide) o)) two in
-    subst (λ (z : Option ℤ). FrameStands q.vertex q.policy.slide z q.held.entries taken xs) (sym l) three
+-- the frames that end at most at t are closed by the entry
+abbrev Closes : ℤ → Entry → Type 0
+Closes t entry = (taken : List Entry) (e : ℤ) → e ≤ℤ t → due_after (taken ++ entry ∷ []) e ≡ true
 
-pub moved_call : (p q : FrameP) (entry : Entry) (before after : Held) → (m : Moved p.vertex p.held.entries before.items q.held.entries after.items) → q.vertex ≡ p.vertex → q.policy ≡ p.policy → q.last ≡ p.last → after.room ≡ before.room → length after.items ≡ after.room → Call Stands Amid Alike false p entry before (Ok false) q after
-moved_call p q entry before after m v o l room full = record {
+-- after some frames were put
+moved : (p q : FrameP) (t : ℤ) (entry : Entry) (before after : List Item) (m : Moved p.vertex t p.held.entries before q.held.entries after) → Closes t entry → q.vertex ≡ p.vertex → q.policy ≡ p.policy → q.last ≡ p.last
+    → (taken : List Entry) (given : List Item) → Amid p taken entry given → Amid q taken entry (given ++ map (λ f. item.Frame (frame_of p.vertex f)) m.first)
+moved p q t entry before after m closes v o l taken given h =
+    let told : List Entry = taken ++ entry ∷ [] in
+    let xs : List Item = given ++ map (λ f. item.Frame (frame_of p.vertex f)) m.first in
+    let one : FrameStands p.vertex p.policy.slide p.last q.held.entries told taken xs = frames_given p.vertex p.policy.slide p.last m.first q.held.entries told taken given
+    (Each-more (λ (f : Place × AccValue). f.0.0 ≤ℤ t) (λ (f : Place × AccValue). due_after told f.0.0 ≡ true) (λ f le. closes taken f.0.0 le) m.first m.closed)
+    (subst (λ (z : Table). FrameStands p.vertex p.policy.slide p.last z told taken given) m.held h) in
+    let two : FrameStands q.vertex p.policy.slide p.last q.held.entries told taken xs = subst (λ (n : ℕ). FrameStands n p.policy.slide p.last q.held.entries told taken xs) (sym v) one in
+    let three : FrameStands q.vertex q.policy.slide p.last q.held.entries told taken xs = subst (λ (s : ℤ). FrameStands q.vertex s p.last q.held.entries told taken xs) (sym (ap (λ x. x.slide) o)) two in
+    subst (λ (z : Option ℤ). FrameStands q.vertex q.policy.slide z q.held.entries told taken xs) (sym l) three
+
+pub moved_call : (p q : FrameP) (t : ℤ) (entry : Entry) (before after : Held) → (m : Moved p.vertex t p.held.entries before.items q.held.entries after.items) → Closes t entry → q.vertex ≡ p.vertex → q.policy ≡ p.policy → q.last ≡ p.last → after.room ≡ before.room → length after.items ≡ after.room → Call Stands Amid Alike false p entry before (Ok false) q after
+moved_call p q t entry before after m closes v o l room full = record {
   put = map (λ f. item.Frame (frame_of p.vertex f)) m.first;
   settings = (v, o);
   room = room;
   puts = m.puts;
   full = λ e. full;
   wants = tt;
-  keeps = λ taken given h. moved p q before.items after.items m v o l taken given h;
+  keeps = λ taken given h. moved p q t entry before.items after.items m closes v o l taken given h;
 }
 
-pub finish_call : (p q : FrameP) (before after : Held) (b : Bool) → (m : Moved p.vertex p.held.entries before.items q.held.entries after.items) → q.vertex ≡ p.vertex → q.policy ≡ p.policy → q.last ≡ p.last → after.room ≡ before.room → (b ≡ true → q.held.entries ≡ []) → (b ≡ false → length after.items ≡ after.room) → Call Stands Amid Alike false p Finish before (Ok b) q after
-finish_call p q before after true m v o l room none full = record {
+pub finish_call : (p q : FrameP) (t : ℤ) (before after : Held) (b : Bool) → (m : Moved p.vertex t p.held.entries before.items q.held.entries after.items) → q.vertex ≡ p.vertex → q.policy ≡ p.policy → q.last ≡ p.last → after.room ≡ before.room → (b ≡ true → q.held.entries ≡ []) → (b ≡ false → length after.items ≡ after.room) → Call Stands Amid Alike false p Finish before (Ok b) q after
+finish_call p q t before after true m v o l room none full = record {
   put = map (λ f. item.Frame (frame_of p.vertex f)) m.first;
   settings = (v, o);
   room = room;
   puts = m.puts;
   full = λ e. absurd (ok_apart e);
   wants = tt;
-  keeps = λ taken given h. frame_finish q.vertex q.policy.slide q.last q.held.entries taken _ (none refl) (moved p q before.items after.items m v o l taken given h);
+  keeps = λ taken given h. frame_finish q.vertex q.policy.slide q.last q.held.entries (taken ++ Finish ∷ []) taken _ (none refl) (moved p q t Finish before.items after.items m (λ taken e le. finish_due taken e) v o l taken given h);
 }
-finish_call p q before after false m v o l room none full = moved_call p q Finish before after m v o l room (full refl)
+finish_call p q t before after false m v o l room none full = moved_call p q t Finish before after m (λ taken e le. finish_due taken e) v o l room (full refl)
 
-pub mark_call : (p q s : FrameP) (t : ℤ) (before middle after : Held) → (m : Moved p.vertex p.held.entries before.items q.held.entries middle.items) → q.vertex ≡ p.vertex → q.policy ≡ p.policy → q.last ≡ p.last → middle.room ≡ before.room → StopsAbove t q.held.entries
+pub mark_call : (p q s : FrameP) (t : ℤ) (before middle after : Held) → (m : Moved p.vertex t p.held.entries before.items q.held.entries middle.items) → q.vertex ≡ p.vertex → q.policy ≡ p.policy → q.last ≡ p.last → middle.room ≡ before.room → StopsAbove t q.held.entries
     → s.vertex ≡ q.vertex → s.policy ≡ q.policy → s.last ≡ Some t → s.held ≡ q.held → after ≡ record middle { items = middle.items ++ item.Mark t ∷ [] } → Call Stands Amid Alike false p (Told t) before (Ok true) s after
 mark_call p q s t before middle after m v o l room stops sv so sl sh put =
     let fs : List Item = map (λ f. item.Frame (frame_of p.vertex f)) m.first in
@@ -109,10 +111,10 @@ mark_call p q s t before middle after m v o l room stops sv so sl sh put =
       full = λ e. absurd (ok_apart e);
       wants = tt;
       keeps = λ taken given h.
-          let a : Stands q taken (given ++ fs) = moved p q before.items middle.items m v o l taken given h in
-          let b : FrameStands q.vertex q.policy.slide (Some t) q.held.entries (taken ++ Told t ∷ []) ((given ++ fs) ++ item.Mark t ∷ []) =
-          frame_mark q.vertex q.policy.slide q.last q.held.entries taken (given ++ fs) t stops a in
-          let c : FrameStands q.vertex q.policy.slide (Some t) q.held.entries (taken ++ Told t ∷ []) (given ++ (fs ++ item.Mark t ∷ [])) = subst (FrameStands q.vertex q.policy.slide (Some t) q.held.entries (taken ++ Told t ∷ [])) (append_assoc given fs (item.Mark t ∷ [])) b in
+          let a : Amid q taken (Told t) (given ++ fs) = moved p q t (Told t) before.items middle.items m (λ taken e le. told_due taken t e le) v o l taken given h in
+          let b : FrameStands q.vertex q.policy.slide (Some t) q.held.entries (taken ++ Told t ∷ []) (taken ++ Told t ∷ []) ((given ++ fs) ++ item.Mark t ∷ []) =
+          frame_mark q.vertex q.policy.slide q.last q.held.entries (taken ++ Told t ∷ []) taken (given ++ fs) t stops a in
+          let c : FrameStands q.vertex q.policy.slide (Some t) q.held.entries (taken ++ Told t ∷ []) (taken ++ Told t ∷ []) (given ++ (fs ++ item.Mark t ∷ [])) = subst (FrameStands q.vertex q.policy.slide (Some t) q.held.entries (taken ++ Told t ∷ []) (taken ++ Told t ∷ [])) (append_assoc given fs (item.Mark t ∷ [])) b in
           rw (sv, ap (λ x. x.slide) so, sl, ap (λ x. x.entries) sh) c;
     }
 
@@ -122,16 +124,22 @@ not_event (item.Side e) h k = k
 not_event (item.Frame e) h k = k
 not_event (item.Row e) h k = k
 not_event (item.Late e) h k = k
+not_event item.Idle h k = k
 not_event (item.Mark e) h k = k
 not_event item.Done h k = k
 
 pub pass_call : (p : FrameP) (port : Port) (q : ℕ) (x : Item) (before after : Held) (b : Bool) → (IsEvent x → ⊥) → IsData x → (b ≡ true → after ≡ record before { items = before.items ++ x ∷ [] }) → (b ≡ false → after ≡ before) → (b ≡ false → length before.items ≡ before.room) → Call Stands Amid Alike false p (Given port q x) before (Ok b) p after
-pass_call p port q x before after b none data_is gave not full = put_call p (Given port q x) x before after b gave not full (λ taken given h. frame_pass p.vertex p.policy.slide p.last p.held.entries taken given port q x none data_is h)
+pass_call p port q x before after b none data_is gave not full = put_call p (Given port q x) x before after b gave not full (λ taken given h. frame_pass p.vertex p.policy.slide p.last p.held.entries (taken ++ Given port q x ∷ []) taken given port q x none data_is h)
 
 pub late_call : (p : FrameP) (port : Port) (q : ℕ) (e : EventValue) (before after : Held) (b : Bool) → pos 1 ≤ℤ p.policy.slide → is_late p.policy.slide p.last e.ts ≡ true
     → (let l : LateValue = record { vertex = p.vertex; event = e } in b ≡ true → after ≡ record before { items = before.items ++ item.Late l ∷ [] }) → (b ≡ false → after ≡ before) → (b ≡ false → length before.items ≡ before.room)
     → Call Stands Amid Alike false p (Given port q (item.Event e)) before (Ok b) p after
-late_call p port q e before after b low late gave not full = put_call p (Given port q (item.Event e)) (item.Late (record { vertex = p.vertex; event = e })) before after b gave not full (λ taken given h. frame_late p.vertex p.policy.slide p.last p.held.entries taken given port q e low late h)
+late_call p port q e before after b low late gave not full = put_call p (Given port q (item.Event e)) (item.Late (record { vertex = p.vertex; event = e })) before after b gave not full (λ taken given h. frame_late p.vertex p.policy.slide p.last p.held.entries (taken ++ Given port q (item.Event e) ∷ []) taken given port q e low late h)
+
+-- an event's first value is as its values are
+pub first_within : (vs : List ℤ) → AllByRecursion (IsWithin most_time) vs → IsWithin most_time (slice_index_or vs 0 (pos 0))
+first_within [] h = (omega (arith, ints), omega (arith, ints))
+first_within (v ∷ vs) h = h.0
 
 shares : (vertex : ℕ) (end : ℤ) (key : List ℕ) (t : Table) → total (frame_at end key) (map (frame_of vertex) t) ≡ total (λ (f : Place × AccValue). only (bytes_eq f.0.1 key && int_eq f.0.0 end) f.1) t
 shares vertex end key t = total-map (frame_at end key) (frame_of vertex) t
@@ -149,13 +157,14 @@ kept_call p s port q e before low late range v o l held =
       full = λ g. absurd (ok_apart g);
       wants = tt;
       keeps = λ taken given h.
-          let a : FrameStands p.vertex p.policy.slide p.last new (taken ++ Given port q (item.Event e) ∷ []) given =
-          frame_kept p.vertex p.policy.slide p.last p.held.entries new taken given port q e late
+          let a : FrameStands p.vertex p.policy.slide p.last new (taken ++ Given port q (item.Event e) ∷ []) (taken ++ Given port q (item.Event e) ∷ []) given =
+          frame_kept p.vertex p.policy.slide p.last p.held.entries new (taken ++ Given port q (item.Event e) ∷ []) taken given port q e late
           (λ end key. shares p.vertex end key new ∙ (total-joined_in (λ z. bytes_eq z.1 key && int_eq z.0 end) k (one (first_value e)) p.held.entries h.kept.ordered ∙ ap (both (event_at p.policy.slide end key e)) (sym (shares p.vertex end key p.held.entries))))
           (length_insert place_cmp k _ p.held.entries)
           (record { ordered = ordered_insert k _ p.held.entries h.kept.ordered; ranges = each_insert place_cmp place_total place_equal (λ (z : Place). IsWithin most_frame_end z.0) k _ p.held.entries h.kept.ranges range })
-          (each_insert place_cmp place_total place_equal (λ (z : Place). is_due p.last z.0 ≡ false) k _ p.held.entries h.above (kept_above p.policy.slide p.last e.ts low late)) h in
-          let b : FrameStands p.vertex p.policy.slide p.last new (taken ++ Given port q (item.Event e) ∷ []) (given ++ []) = subst (FrameStands p.vertex p.policy.slide p.last new (taken ++ Given port q (item.Event e) ∷ [])) (sym (append-nil given)) a in
+          (each_insert place_cmp place_total place_equal (λ (z : Place). is_due p.last z.0 ≡ false) k _ p.held.entries h.above (kept_above p.policy.slide p.last e.ts low late))
+          (λ i d k. subst (λ (o : Option ℤ). is_due o d ≡ true) (sym h.tie) (due_before taken port q (item.Event e) d refl i k)) h in
+          let b : FrameStands p.vertex p.policy.slide p.last new (taken ++ Given port q (item.Event e) ∷ []) (taken ++ Given port q (item.Event e) ∷ []) (given ++ []) = subst (FrameStands p.vertex p.policy.slide p.last new (taken ++ Given port q (item.Event e) ∷ []) (taken ++ Given port q (item.Event e) ∷ [])) (sym (append-nil given)) a in
           rw (v, ap (λ x. x.slide) o, l, held) b;
     }
 
@@ -168,11 +177,11 @@ close_call p port q before = record {
   puts = sym (append-nil before.items);
   full = λ e. absurd (ok_apart e);
   wants = tt;
-  keeps = λ taken given h. subst (Stands p (taken ++ Closed port q ∷ [])) (sym (append-nil given)) (frame_close p.vertex p.policy.slide p.last p.held.entries taken given port q h);
+  keeps = λ taken given h. subst (Stands p (taken ++ Closed port q ∷ [])) (sym (append-nil given)) (frame_close p.vertex p.policy.slide p.last p.held.entries (taken ++ Closed port q ∷ []) taken given port q h);
 }
 
 -- no frame ends above a time beyond the range of frames
-pub none_left : (vertex : ℕ) (old new : Table) (before after : List Item) (t : ℤ) → Moved vertex old before new after → IsKept old → pos most_frame_end ≤ℤ t → StopsAbove t new → new ≡ []
+pub none_left : (vertex : ℕ) (old new : Table) (before after : List Item) (t : ℤ) → Moved vertex t old before new after → IsKept old → pos most_frame_end ≤ℤ t → StopsAbove t new → new ≡ []
 none_left vertex old [] before after t m kept high stops = refl
 none_left vertex old (f ∷ fs) before after t m kept high stops =
     let ranges = Each-back (λ (g : Place × AccValue). IsWithin most_frame_end g.0.0) m.first (f ∷ fs) (subst (Each (λ (g : Place × AccValue). IsWithin most_frame_end g.0.0)) m.held kept.ranges) in
@@ -193,7 +202,7 @@ err_call p s entry before (Err e) h v o l held = record {
   puts = sym (append-nil before.items);
   full = λ g. absurd (err_ok e g);
   wants = refl;
-  keeps = λ taken given k. rw (v, ap (λ x. x.slide) o, l, held) (subst (Stands p taken) (sym (append-nil given)) k);
+  keeps = λ taken given k. rw (v, ap (λ x. x.slide) o, l, held) (subst (Amid p taken entry) (sym (append-nil given)) k);
 }
   where
     err_ok : (e : NoMemory) → (let failed : Result Bool NoMemory = Err e in failed ≡ Ok false) → ⊥

@@ -269,7 +269,7 @@ rises (r ∷ rows) h once = (rising_if r rows h.0 (once [] r rows refl), rises r
 module _ (n : ℕ) (entered : ℕ → Inflow) (parts : ℕ → List RowValue) (rows : List RowValue)
     (grid : (i : ℕ) → i < n → IsPolicy (entered i).window.size (entered i).window.slide)
     (distinct : (i j : ℕ) → i < n → j < n → (entered i).window.vertex ≡ (entered j).window.vertex → i ≡ j)
-    (over : (i : ℕ) → i < n → RowsOver (entered i).window (λ e. true) (entered i).events (parts i))
+    (over : (i : ℕ) → i < n → RowsOver (entered i).window (λ key e. true) [] (entered i).events (parts i))
     (bag : SameBag rows (all_of n parts)) where
   -- what the events of a window bring to an end and a key
   abbrev wanted : ℕ → ℤ → List ℕ → Option AccValue

@@ -1,5 +1,6 @@
 pub mod Between
 pub mod Calling
+pub mod Counts
 pub mod Driving
 pub mod Ending
 pub mod Ends

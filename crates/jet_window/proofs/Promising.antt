@@ -14,11 +14,12 @@ use Rattle.jet_items.specs.declared.item.Item.{Item}
 use Rattle.jet_items.specs.declared.item.Item.TheVariants as item
 use Rattle.jet_items.proofs.Orders.{Each-append, Each-more, Each-front, Each-back, EachPair-append, Shadows, Shadows-refl}
 use Rattle.jet_boxes.specs.Entry.{IsData, NotDone}
+use Rattle.jet_window.specs.Idles.{as_idle}
 use Rattle.jet_window.specs.CombineLaws.{pending_none}
-use Rattle.jet_window.specs.CombineStands.{Promises, pending}
+use Rattle.jet_window.specs.CombineStands.{IsFrame, Promises, pending}
 use Rattle.jet_window.specs.Combining.{Fits, TakesUp, Clear, Passes, row_of}
 use Rattle.jet_window.specs.FrameTables.{Table, IsKept, held_in}
-use Rattle.jet_window.specs.Passing.{Shadows-append, Shadows-more, of_none, of_both, bag_both, marks_none, data_open, after_marks, marks_below, closed_before, closed_push}
+use Rattle.jet_window.specs.Passing.{Shadows-append, Shadows-more, of_none, of_both, bag_both, alone_push, marks_none, data_open, after_marks, marks_below, closed_before, closed_push}
 use Rattle.jet_window.specs.Taken.{is_due}
 use Rattle.jet_window.proofs.Fitting.{Fits-up, Fits-pass, Fits-frame, due_more, le_true}
 
@@ -33,6 +34,7 @@ weaker f p = record {
   closed = p.closed;
   events = p.events;
   sides = p.sides;
+  idles = p.idles;
   lates = p.lates;
   frames = p.frames;
   own = p.own;
@@ -56,6 +58,7 @@ rows_shadow behind vertex e ready = record { inside = λ m. pairs ready; later =
     one_after (item.Frame e) r = tt
     one_after (item.Row e) r = tt
     one_after (item.Late e) r = tt
+    one_after item.Idle r = tt
     one_after (item.Mark e) r = tt
     one_after item.Done r = tt
 
@@ -118,6 +121,7 @@ Promises-up vertex size slide passed held promised input items e ready rest p up
           (after_marks promised new p.open_ended (subst (Each (λ w. Each (IsAbove w) new)) (sym p.marks) (Each-more (λ w. is_due passed w ≡ true) (λ w. Each (IsAbove w) new) (λ w h. rows_above vertex e w ready (due_more passed e w up.later h)) (marks_of items) (p.due i))));
       events = up_none as_event (λ r. refl) promised vertex e ready ∙ p.events;
       sides = up_none as_side (λ r. refl) promised vertex e ready ∙ p.sides;
+      idles = up_none as_idle (λ r. refl) promised vertex e ready ∙ p.idles;
       lates = up_none as_late (λ r. refl) promised vertex e ready ∙ p.lates;
       frames = up_none as_frame (λ r. refl) promised vertex e ready ∙ p.frames;
       own = p.own ++ new_rows;
@@ -128,36 +132,15 @@ Promises-up vertex size slide passed held promised input items e ready rest p up
     }
 
 -- ---- an item passes as it is
--- what passes is no frame
-abbrev pub IsFrame : Item → Type 0
-IsFrame (item.Event e) = ⊥
-IsFrame (item.Side s) = ⊥
-IsFrame (item.Frame f) = Unit {0}
-IsFrame (item.Row r) = ⊥
-IsFrame (item.Late l) = ⊥
-IsFrame (item.Mark m) = ⊥
-IsFrame item.Done = ⊥
-
 no_frame : (x : Item) → (IsFrame x → ⊥) → as_frame x ≡ []
 no_frame (item.Event e) h = refl
 no_frame (item.Side e) h = refl
 no_frame (item.Frame e) h = absurd (h tt)
 no_frame (item.Row e) h = refl
 no_frame (item.Late e) h = refl
+no_frame item.Idle h = refl
 no_frame (item.Mark e) h = refl
 no_frame item.Done h = refl
-
-front_none : {X : Type 0} (xs ys : List X) → xs ++ ys ≡ [] → (xs ≡ []) × (ys ≡ [])
-front_none [] ys h = (refl, h)
-front_none (x ∷ xs) ys h = absurd (never h)
-  where
-    never : x ∷ (xs ++ ys) ≡ [] → ⊥
-    never h = absurd (cc)
-
-alone_push : (promised items : List Item) (own : List RowValue) (x : Item) → (rows_of items ≡ [] → rows_of promised ≡ own) → rows_of (items ++ x ∷ []) ≡ [] → rows_of (promised ++ x ∷ []) ≡ own
-alone_push promised items own x alone none =
-    let parts = front_none (rows_of items) (rows_of (x ∷ [])) (sym (flat_map-append as_row items (x ∷ [])) ∙ none) in
-    flat_map-append as_row promised (x ∷ []) ∙ (ap (λ (rs : List RowValue). rows_of promised ++ rs) parts.1 ∙ (append-nil (rows_of promised) ∙ alone parts.0))
 
 pub Promises-pass : (vertex : ℕ) (size slide : ℤ) (passed : Option ℤ) (held : Table) (promised : List Item) (input : Type 0) (items : List Item) (x : Item) → (IsFrame x → ⊥) → IsData x
     → Promises vertex size slide passed held promised input items → Promises vertex size slide passed held (promised ++ x ∷ []) input (items ++ x ∷ [])
@@ -172,11 +155,12 @@ Promises-pass vertex size slide passed held promised input items x none data_is 
       closed = λ i. closed_push promised items x p.open_ended p.marks (p.closed (closed_before items x i)) i;
       events = of_both as_event promised items x p.events;
       sides = of_both as_side promised items x p.sides;
+      idles = of_both as_idle promised items x p.idles;
       lates = of_both as_late promised items x p.lates;
       frames = of_none as_frame promised x (no_frame x none) ∙ p.frames;
       own = p.own;
       rows = bag_both as_row promised items p.own x p.rows;
-      alone = alone_push promised items p.own x p.alone;
+      alone = alone_push as_row promised items p.own x p.alone;
       fits = λ i. subst (λ (fs : List FrameValue). Fits vertex size slide passed held fs p.own) (sym (of_none as_frame items x (no_frame x none))) (p.fits i);
       kept = p.kept;
     }
@@ -198,6 +182,7 @@ Promises-frame vertex size slide passed held promised input items f held' later 
       closed = λ i. p.closed (closed_before items v i);
       events = p.events ∙ sym (of_none as_event items v refl);
       sides = p.sides ∙ sym (of_none as_side items v refl);
+      idles = p.idles ∙ sym (of_none as_idle items v refl);
       lates = p.lates ∙ sym (of_none as_late items v refl);
       frames = p.frames;
       own = p.own;
@@ -228,11 +213,12 @@ Promises-mark vertex size slide passed held promised input items t inputs back p
       closed = λ i. closed_push promised items m p.open_ended p.marks (p.closed (closed_before items m i)) i;
       events = of_both as_event promised items m p.events;
       sides = of_both as_side promised items m p.sides;
+      idles = of_both as_idle promised items m p.idles;
       lates = of_both as_late promised items m p.lates;
       frames = of_none as_frame promised m refl ∙ p.frames;
       own = p.own;
       rows = bag_both as_row promised items p.own m p.rows;
-      alone = alone_push promised items p.own m p.alone;
+      alone = alone_push as_row promised items p.own m p.alone;
       fits = λ i. subst (λ (fs : List FrameValue). Fits vertex size slide (Some t) held fs p.own) (sym (of_none as_frame items m refl))
           (Fits-pass vertex size slide passed held (frames_of items) p.own t (p.fits (back i)) (passes i) clear);
       kept = p.kept;

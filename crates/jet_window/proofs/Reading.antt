@@ -27,9 +27,11 @@ use Rattle.jet_items.proofs.GridLemmas.{floor_is}
 use Rattle.jet_items.proofs.Totaling.{total-none, total-same}
 use Rattle.jet_policy.specs.Policy.{IsPolicy}
 use Rattle.jet_window.specs.Plain.{PlainValue, HasTaken, RowsBetween, is_open, is_between, window_named}
-use Rattle.jet_window.specs.Tables.{Place, place_cmp, row_of, IsTable, only, is_multiple, brings}
-use Rattle.jet_window.proofs.Between.{Decides-int_lt, Decides-in_window, Decides-is_between, false_from}
-use Rattle.jet_window.proofs.Members.{event_in, IsTotalOf, members_total, total_brings, total_kept}
+use Rattle.jet_window.specs.Tables.{Place, place_cmp, row_of, IsTable, is_multiple, brings}
+use Rattle.jet_items.specs.Frames.{only, event_in}
+use Rattle.jet_items.proofs.Covering.{Decides-int_lt, Decides-in_window, IsTotalOf, false_from, members_total}
+use Rattle.jet_window.proofs.Between.{Decides-is_between}
+use Rattle.jet_window.proofs.Members.{total_brings, total_kept}
 use Rattle.jet_window.proofs.Stepping.{place_total, Decides-multiple, total_push, contra}
 
 -- both answers

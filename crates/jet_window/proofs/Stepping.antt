@@ -19,8 +19,10 @@ use Rattle.jet_items.specs.Values.{EventValue, AccValue, RowValue}
 use Rattle.jet_items.proofs.GridLemmas.{floor_is, rem_bounds, multiple_apart}
 use Rattle.jet_items.proofs.Totaling.{both_none, total-append}
 use Rattle.jet_window.specs.Plain.{is_between}
-use Rattle.jet_window.specs.Tables.{Place, place_cmp, with_row, row_of, IsTable, only, is_multiple, stepped, brings, IsFirstEnd, IsLastDue}
-use Rattle.jet_window.proofs.Between.{Decides-int_le, Decides-in_window, Decides-is_between, false_from}
+use Rattle.jet_window.specs.Tables.{Place, place_cmp, with_row, row_of, IsTable, is_multiple, stepped, brings, IsFirstEnd, IsLastDue}
+use Rattle.jet_items.specs.Frames.{only}
+use Rattle.jet_items.proofs.Covering.{Decides-int_le, Decides-in_window, false_from}
+use Rattle.jet_window.proofs.Between.{Decides-is_between}
 
 pub place_total : IsTotalOrder place_cmp
 place_total = then_total (on_total (λ (p : Place). p.0) int_cmp_total) (on_total (λ (p : Place). p.1) nat_list_cmp_total)

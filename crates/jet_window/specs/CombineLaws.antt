@@ -1,5 +1,5 @@
 -- The laws of a combine vertex: what follows from what it stands for.
-use Rattle.std.proofs.Common.{◌≡◌, ℕ, Bool, true, false, cond, ◌&&◌, ◌||◌, ℤ, ◌<ℤ◌, ◌≤ℤ◌, List, [], ◌∷◌, ◌++◌, Option, Some, None, refl, sym, ◌∙◌, ap, subst, arith, append-nil}
+use Rattle.std.proofs.Common.{◌≡◌, ℕ, Bool, true, false, cond, ◌&&◌, ◌||◌, ℤ, ◌<ℤ◌, ◌≤ℤ◌, List, [], ◌∷◌, ◌++◌, map, Option, Some, None, refl, sym, ◌∙◌, ap, subst, arith, append-nil}
 use Rattle.std.specs.List.{flat_map}
 use Rattle.std.proofs.lemmas.Int.{ints}
 use Rattle.std.proofs.lemmas.List.Concat.{flat_map-append}
@@ -7,42 +7,39 @@ use Rattle.jet_items.specs.Frames.{frame_in}
 use Rattle.jet_items.specs.Kinds.{frames_of, marks_of, as_mark}
 use Rattle.jet_items.specs.Order.{Each, Sound, SoundAfter, LateIsBehind, Closed as ClosedItems, ClosedAfter, IsAbove}
 use Rattle.jet_items.specs.Totals.{total}
-use Rattle.jet_items.specs.Values.{AccValue, RowValue}
+use Rattle.jet_items.specs.Values.{AccValue, FrameValue, RowValue}
 use Rattle.jet_items.specs.declared.item.Item.{Item}
 use Rattle.jet_items.specs.declared.item.Item.TheVariants as item
 use Rattle.jet_items.proofs.Covering.{Decides-int_le}
+use Rattle.jet_items.proofs.Totaling.{total-map}
 use Rattle.jet_items.proofs.Orders.{Each-more, Each-front, EachPair-front}
 use Rattle.jet_boxes.specs.Entry.{Entry, Given, Told, Closed, Finish, items_of, IsData, NotDone}
-use Rattle.jet_window.specs.CombineStands.{Combine, CombineBag, CombineBagAmid, CombineStands, CombineAmid, Promises, PromisesAfter, pending, pending_rows}
+use Rattle.jet_window.specs.CombineStands.{Combine, CombineBag, CombineBagAmid, CombineStands, CombineAmid, HeldOpen, Promises, PromisesAfter, pending, pending_rows}
 use Rattle.jet_window.specs.Combining.{Passes, row_of}
-use Rattle.jet_window.specs.FrameTables.{held_in}
-use Rattle.jet_window.specs.Passing.{from_last, last_push, items_push, marks_none, same_last, sound_front, closed_front, input_front, input_open, input_above, not_finished, unfinished, finished_last}
-use Rattle.jet_window.specs.Tables.{is_multiple}
-use Rattle.jet_window.specs.Taken.{is_due, last_from, last_mark, is_finished, due_after, CombineInput}
+use Rattle.jet_window.specs.FrameTables.{Table, frame_of, held_in}
+use Rattle.jet_window.specs.Passing.{from_last, sound_front, closed_front, input_front, input_open, not_finished, told_above, told_due, finish_due, open_due, due_next}
+use Rattle.jet_window.specs.Tables.{Place, is_multiple}
+use Rattle.jet_window.specs.Taken.{is_due, last_from, last_mark, is_finished, due_after, InOpenWindow, StageInput}
 use Rattle.jet_window.specs.WindowRows.{as_list, RowsAre}
 
 -- ---- a mark that is told next is above what passed
-tie_bound : (taken : List Entry) (t : ℤ) (o : Option ℤ) → o ≡ last_mark taken → CombineInput (taken ++ Told t ∷ []) → Passes o t
-tie_bound taken t None is h = record { stays = λ d k. absurd (cc) }
-tie_bound taken t (Some p) is h =
-    let below : Each (λ w. w <ℤ t) (marks_of (items_of taken)) = Each-more (λ w. Each (IsAbove w) (item.Mark t ∷ [])) (λ w. w <ℤ t) (λ w k. k.0) (marks_of (items_of taken)) (input_above taken (Told t) h) in
-    let lt : p <ℤ t = from_last (λ w. w <ℤ t) p (marks_of (items_of taken)) below (sym is) in
-    record { stays = λ d k. let le : d ≤ℤ p = (Decides-int_le d p).0 k in omega (arith, ints) }
+tie_bound : (taken : List Entry) (t : ℤ) (o : Option ℤ) → o ≡ last_mark taken → StageInput (taken ++ Told t ∷ []) → Passes o t
+tie_bound taken t o is h = record { stays = λ d k. told_above taken t d h (subst (λ (z : Option ℤ). is_due z d ≡ true) is k) }
 
 -- a call may begin
 pub combine_begins : (p : Combine) (taken : List Entry) (entry : Entry) (given : List Item) → CombineStands p taken given → CombineAmid p taken entry given
 combine_begins p taken (Given port q x) given h = h
-combine_begins p taken (Told t) given h = record { promises = h.promises; range = h.range; bound = λ i. tie_bound taken t p.passed (h.tie (input_open taken (Told t) i)) i }
+combine_begins p taken (Told t) given h = record { promises = h.promises; range = h.range; held_open = h.held_open; bound = λ i. tie_bound taken t p.passed (h.tie (input_open taken (Told t) i)) i }
 combine_begins p taken (Closed port q) given h = h
-combine_begins p taken Finish given h = record { promises = h.promises; range = h.range }
+combine_begins p taken Finish given h = record { promises = h.promises; range = h.range; held_open = h.held_open }
 
 -- ---- what is promised
 pub no_pending : (vertex : ℕ) (e : ℤ) (ready : List (List ℕ × AccValue)) (given : List Item) → ready ≡ [] → given ++ pending vertex e ready ≡ given
 no_pending vertex e ready given h = rw h (append-nil given)
 
-pub given_promised : (p : Combine) (taken : List Entry) (given : List Item) → CombineStands p taken given → Promises p.vertex p.size p.slide p.passed p.held given (CombineInput taken) (items_of taken)
+pub given_promised : (p : Combine) (taken : List Entry) (given : List Item) → CombineStands p taken given → Promises p.vertex p.size p.slide p.passed p.held given (StageInput taken) (items_of taken)
 given_promised p taken given h =
-    subst (λ (xs : List Item). Promises p.vertex p.size p.slide p.passed p.held xs (CombineInput taken) (items_of taken)) (no_pending p.vertex p.end p.ready given h.put) h.promises
+    subst (λ (xs : List Item). Promises p.vertex p.size p.slide p.passed p.held xs (StageInput taken) (items_of taken)) (no_pending p.vertex p.end p.ready given h.put) h.promises
 
 -- rows that are ready bring nothing of another kind
 pub pending_none : {X : Type 0} (f : Item → List X) → ((r : RowValue) → f (item.Row r) ≡ []) → (vertex : ℕ) (e : ℤ) (ready : List (List ℕ × AccValue)) → flat_map f (pending vertex e ready) ≡ []
@@ -106,7 +103,7 @@ all_due true true t h = refl
 all_due true false t h = rw (h refl refl) refl
 all_due false b t h = refl
 
-rows_if : (p : Combine) (taken : List Entry) (given : List Item) → (h : CombineStands p taken given) → CombineInput taken → (b : Bool) → is_finished taken ≡ b
+rows_if : (p : Combine) (taken : List Entry) (given : List Item) → (h : CombineStands p taken given) → StageInput taken → (b : Bool) → is_finished taken ≡ b
     → RowsAre p.vertex p.size p.slide (λ e. b || is_due (last_mark taken) e) (frames_of (items_of taken)) (given_promised p taken given h).own
 rows_if p taken given h k true is =
     let f = (given_promised p taken given h).fits k in
@@ -120,19 +117,46 @@ rows_if p taken given h k false is =
     let tie : p.passed ≡ last_mark taken = h.tie (not_finished taken is) in
     subst (λ (o : Option ℤ). RowsAre p.vertex p.size p.slide (is_due o) (frames_of (items_of taken)) (given_promised p taken given h).own) tie f.rows_are
 
+-- ---- what is held
+held_frames : (vertex : ℕ) (size e : ℤ) (key : List ℕ) (held : Table) → total (frame_in size e key) (map (frame_of vertex) held) ≡ total (held_in size e key) held
+held_frames vertex size e key held = total-map (frame_in size e key) (frame_of vertex) held
+
+open_frames : (vertex : ℕ) (size slide : ℤ) (taken : List Entry) (held : Table) → Each (λ (f : Place × AccValue). InOpenWindow size slide (due_after taken) f.0.0) held → Each (λ (f : FrameValue). InOpenWindow size slide (due_after taken) f.end) (map (frame_of vertex) held)
+open_frames vertex size slide taken [] h = tt
+open_frames vertex size slide taken (f ∷ fs) h = (h.0, open_frames vertex size slide taken fs h.1)
+
+amid_open : (p : Combine) (taken : List Entry) (entry : Entry) (given : List Item) → CombineAmid p taken entry given → HeldOpen p taken
+amid_open p taken (Given port q x) given h = h.held_open
+amid_open p taken (Told t) given h = h.held_open
+amid_open p taken (Closed port q) given h = h.held_open
+amid_open p taken Finish given h = h.held_open
+
+neither : (b c : Bool) → (b || c) ≡ false → (b ≡ false) × (c ≡ false)
+neither true c h = absurd (cc)
+neither false c h = (refl, h)
+
+-- what is not due has not passed
+not_passed : (p : Combine) (taken : List Entry) (given : List Item) → CombineStands p taken given → (e : ℤ) → due_after taken e ≡ false → is_due p.passed e ≡ false
+not_passed p taken given h e d =
+    let both = neither (is_finished taken) (is_due (last_mark taken) e) d in
+    subst (λ (o : Option ℤ). is_due o e ≡ false) (sym (h.tie (not_finished taken both.0))) both.1
+
 -- nothing is lost, made up or given twice: the rows given are those of the frames taken, of all windows that are due
-pub combine_bag : (p : Combine) (taken : List Entry) (given : List Item) → CombineStands p taken given → CombineBag p.vertex p.size p.slide (due_after taken) (CombineInput taken) taken given
+pub combine_bag : (p : Combine) (taken : List Entry) (given : List Item) → CombineStands p taken given → CombineBag p.vertex p.size p.slide None [] (map (frame_of p.vertex) p.held) (due_after taken) (StageInput taken) taken given
 combine_bag p taken given h =
     let g = given_promised p taken given h in
     record {
       events = g.events;
       sides = g.sides;
+      idles = g.idles;
       lates = g.lates;
       frames = g.frames;
       own = g.own;
       passed = g.rows;
       alone = g.alone;
       rows = λ i. rows_if p taken given h i (is_finished taken) refl;
+      held_is = λ i e key m d. held_frames p.vertex p.size e key p.held ∙ (g.fits i).held_is e key m (not_passed p taken given h e d);
+      held_open = λ grid i. open_frames p.vertex p.size p.slide taken p.held (h.held_open grid i);
     }
 
 -- ---- the same within a call
@@ -145,51 +169,32 @@ due_last : (passed : Option ℤ) (ws : List ℤ) (e : ℤ) → Each (λ w. is_du
 due_last passed ws e h None is k = absurd (cc)
 due_last passed ws e h (Some w) is k = due_below passed e w ((Decides-int_le e w).0 k) (from_last (λ v. is_due passed v ≡ true) w ws h is)
 
-either_true : (b c : Bool) → c ≡ true → (b || c) ≡ true
-either_true true c h = refl
-either_true false c h = h
+at_most_after : (p : Combine) (taken : List Entry) (entry : Entry) (given : List Item) → CombineAmid p taken entry given → StageInput (taken ++ entry ∷ []) → (e : ℤ) → is_due p.passed e ≡ true → due_after (taken ++ entry ∷ []) e ≡ true
+at_most_after p taken (Given port q x) given h i e d = due_next taken (Given port q x) i e (subst (λ (z : Option ℤ). is_due z e ≡ true) (h.tie (input_open taken (Given port q x) i)) d)
+at_most_after p taken (Told t) given h i e d = told_due taken t e ((h.bound i).stays e d)
+at_most_after p taken (Closed port q) given h i e d = due_next taken (Closed port q) i e (subst (λ (z : Option ℤ). is_due z e ≡ true) (h.tie (input_open taken (Closed port q) i)) d)
+at_most_after p taken Finish given h i e d = finish_due taken e
 
-first_true : (b c : Bool) → b ≡ true → (b || c) ≡ true
-first_true true c h = refl
-first_true false c h = absurd (cc)
-
-second_true : (b c : Bool) → b ≡ false → (b || c) ≡ true → c ≡ true
-second_true true c h k = absurd (cc)
-second_true false c h k = k
-
-come_data : (taken : List Entry) (port : _) (q : ℕ) (x : Item) → CombineInput (taken ++ Given port q x ∷ []) → IsData x
-come_data taken port q x i = (i.comes taken (Given port q x) [] refl).2
-
-stays_due : (taken : List Entry) (entry : Entry) (o : Option ℤ) (e : ℤ) → o ≡ last_mark taken → last_mark (taken ++ entry ∷ []) ≡ last_mark taken → is_due o e ≡ true → due_after (taken ++ entry ∷ []) e ≡ true
-stays_due taken entry o e tie last h = either_true (is_finished (taken ++ entry ∷ [])) (is_due (last_mark (taken ++ entry ∷ [])) e) (subst (λ (z : Option ℤ). is_due z e ≡ true) (tie ∙ sym last) h)
-
-at_most_after : (p : Combine) (taken : List Entry) (entry : Entry) (given : List Item) → CombineAmid p taken entry given → CombineInput (taken ++ entry ∷ []) → (e : ℤ) → is_due p.passed e ≡ true → due_after (taken ++ entry ∷ []) e ≡ true
-at_most_after p taken (Given port q x) given h i e d =
-    stays_due taken (Given port q x) p.passed e (h.tie (input_open taken (Given port q x) i)) (same_last taken port q x (marks_none x (come_data taken port q x i))) d
-at_most_after p taken (Told t) given h i e d =
-    let last : last_mark (taken ++ Told t ∷ []) ≡ Some t = ap (λ (xs : List Item). last_from None (marks_of xs)) (items_push taken (Told t)) ∙ (ap (last_from None) (flat_map-append as_mark (items_of taken) (item.Mark t ∷ [])) ∙ last_push None (marks_of (items_of taken)) t) in
-    either_true (is_finished (taken ++ Told t ∷ [])) (is_due (last_mark (taken ++ Told t ∷ [])) e) (subst (λ (z : Option ℤ). is_due z e ≡ true) (sym last) ((Decides-int_le e t).1 ((h.bound i).stays e d)))
-at_most_after p taken (Closed port q) given h i e d =
-    stays_due taken (Closed port q) p.passed e (h.tie (input_open taken (Closed port q) i)) (ap (λ (xs : List Item). last_from None (marks_of xs)) (items_push taken (Closed port q) ∙ append-nil (items_of taken))) d
-at_most_after p taken Finish given h i e d = first_true (is_finished (taken ++ Finish ∷ [])) (is_due (last_mark (taken ++ Finish ∷ [])) e) (finished_last taken)
-
-pub combine_bag_amid : (p : Combine) (taken : List Entry) (entry : Entry) (given : List Item) → CombineAmid p taken entry given → CombineBagAmid p.vertex p.size p.slide taken entry given
+pub combine_bag_amid : (p : Combine) (taken : List Entry) (entry : Entry) (given : List Item) → CombineAmid p taken entry given → CombineBagAmid p.vertex p.size p.slide None [] (map (frame_of p.vertex) p.held) taken entry given
 combine_bag_amid p taken entry given h =
     let g = amid_promises p taken entry given h in
     record {
       ready = pending_rows p.vertex p.end p.ready;
       until = p.passed;
       at_least = λ i e d. due_last p.passed (marks_of (items_of taken)) e (g.due (closed_front taken entry i.closed.after)) (last_mark taken) refl
-          (second_true (is_finished taken) (is_due (last_mark taken) e) (unfinished taken (input_open taken entry i)) d);
+          (open_due taken e (input_open taken entry i) d);
       at_most = λ i e d. at_most_after p taken entry given h i e d;
       bag = record {
         events = g.events;
         sides = g.sides;
+        idles = g.idles;
         lates = g.lates;
         frames = g.frames;
         own = g.own;
         passed = g.rows;
         alone = g.alone;
         rows = λ i. (g.fits (input_front taken entry i)).rows_are;
+        held_is = λ i e key m d. held_frames p.vertex p.size e key p.held ∙ (g.fits (input_front taken entry i)).held_is e key m d;
+        held_open = λ grid i. open_frames p.vertex p.size p.slide taken p.held (amid_open p taken entry given h grid (input_front taken entry i));
       };
     }

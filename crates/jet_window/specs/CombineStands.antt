@@ -1,41 +1,56 @@
 -- What a combine vertex gave and holds, against what it took.
-use Rattle.std.specs.Prelude.{◌≡◌, ℕ, Bool, true, ℤ, List, [], ◌∷◌, ◌++◌, map, Option}
+use Rattle.std.specs.Prelude.{◌≡◌, ℕ, Bool, true, false, cond, ◌||◌, ℤ, List, [], ◌∷◌, ◌++◌, map, Option}
 use Rattle.jet_items.specs.Bag.{SameBag}
 use Rattle.jet_items.specs.Kinds.{events_of, sides_of, frames_of, rows_of, lates_of, marks_of}
 use Rattle.jet_items.specs.Order.{Each, EachPair, SoundAfter, LateIsBehind, ClosedAfter}
 use Rattle.jet_items.specs.Ranges.{IsWithin, most_row_end}
-use Rattle.jet_items.specs.Values.{AccValue, RowValue}
+use Rattle.jet_items.specs.Frames.{frame_in}
+use Rattle.jet_items.specs.Totals.{total}
+use Rattle.jet_items.specs.Values.{AccValue, FrameValue, RowValue}
 use Rattle.jet_items.specs.declared.item.Item.{Item}
 use Rattle.jet_items.specs.declared.item.Item.TheVariants as item
 use Rattle.jet_items.proofs.Orders.{Shadows}
+use Rattle.jet_policy.specs.Policy.{IsPolicy}
 use Rattle.jet_boxes.specs.Entry.{Entry, Given, Told, Closed, Finish, items_of, NotFinish, NotDone}
+use Rattle.jet_window.specs.Idles.{idles_of}
 use Rattle.jet_window.specs.Combining.{Fits, Passes, row_of}
 use Rattle.jet_window.specs.FrameTables.{Table, IsKept}
-use Rattle.jet_window.specs.Taken.{is_due, last_mark, is_finished, due_after, CombineInput}
+use Rattle.jet_window.specs.Tables.{Place, is_multiple}
+use Rattle.jet_window.specs.Taken.{is_due, last_mark, is_finished, due_after, InOpenWindow, StageInput}
 use Rattle.jet_window.specs.WindowRows.{RowsAre}
 
--- the bag law of a combine vertex: `due` says of a window end that its rows are given, where what was taken is as `input` says
-pub record CombineBag (vertex : ℕ) (size slide : ℤ) (due : ℤ → Bool) (input : Type 0) (taken : List Entry) (given : List Item) : Type 0 where
-  -- events, side rows and late items pass, and no frame does
+-- an end is due, and above the mark that a vertex began with
+abbrev pub newly : Option ℤ → (ℤ → Bool) → ℤ → Bool
+newly begun due e = cond (is_due begun e) false (due e)
+
+-- the bag law of a combine vertex that holds these frames, and began with this mark and these frames or with none: `due` says of
+-- a window end that its rows are given, where what was taken is as `input` says
+pub record CombineBag (vertex : ℕ) (size slide : ℤ) (begun : Option ℤ) (start held : List FrameValue) (due : ℤ → Bool) (input : Type 0) (taken : List Entry) (given : List Item) : Type 0 where
+  -- events, side rows, idle notes and late items pass, and no frame does
   pub events : events_of given ≡ events_of (items_of taken)
   pub sides : sides_of given ≡ sides_of (items_of taken)
+  pub idles : idles_of given ≡ idles_of (items_of taken)
   pub lates : lates_of given ≡ lates_of (items_of taken)
   pub frames : frames_of given ≡ []
   -- rows that were taken pass, the others are the vertex's own; where none was taken all are its own
   pub own : List RowValue
   pub passed : SameBag (rows_of given) (rows_of (items_of taken) ++ own)
   pub alone : rows_of (items_of taken) ≡ [] → rows_of given ≡ own
-  -- its own rows are those over the frames that were taken, of the windows that are due
-  pub rows : input → RowsAre vertex size slide due (frames_of (items_of taken)) own
+  -- its own rows are those over its first frames and those that were taken, of the windows that are due and were not before
+  pub rows : input → RowsAre vertex size slide (newly begun due) (start ++ frames_of (items_of taken)) own
+  -- of each other window it holds what these frames join to
+  pub held_is : input → (e : ℤ) (key : List ℕ) → is_multiple slide e ≡ true → (is_due begun e || due e) ≡ false → total (frame_in size e key) held ≡ total (frame_in size e key) (start ++ frames_of (items_of taken))
+  -- a frame is forgotten once its last window is closed: held are only frames of open windows
+  pub held_open : IsPolicy size slide → input → Each (λ f. InOpenWindow size slide (λ e. is_due begun e || due_after taken e) f.end) held
 
 -- the same in the middle of a call: with the rows that are ready to be given, they are those of the windows up to a time;
 -- that is at least the last mark, and no later than the call itself makes due
-pub record CombineBagAmid (vertex : ℕ) (size slide : ℤ) (taken : List Entry) (entry : Entry) (given : List Item) : Type 0 where
+pub record CombineBagAmid (vertex : ℕ) (size slide : ℤ) (begun : Option ℤ) (start held : List FrameValue) (taken : List Entry) (entry : Entry) (given : List Item) : Type 0 where
   pub ready : List RowValue
   pub until : Option ℤ
-  pub at_least : CombineInput (taken ++ entry ∷ []) → (e : ℤ) → due_after taken e ≡ true → is_due until e ≡ true
-  pub at_most : CombineInput (taken ++ entry ∷ []) → (e : ℤ) → is_due until e ≡ true → due_after (taken ++ entry ∷ []) e ≡ true
-  pub bag : CombineBag vertex size slide (is_due until) (CombineInput (taken ++ entry ∷ [])) taken (given ++ map item.Row ready)
+  pub at_least : StageInput (taken ++ entry ∷ []) → (e : ℤ) → due_after taken e ≡ true → is_due until e ≡ true
+  pub at_most : StageInput (taken ++ entry ∷ []) → (e : ℤ) → is_due until e ≡ true → due_after (taken ++ entry ∷ []) e ≡ true
+  pub bag : CombineBag vertex size slide begun start held (is_due until) (StageInput (taken ++ entry ∷ [])) taken (given ++ map item.Row ready)
 
 -- what was taken, against what was given or is sure to be given next; `input` says that what was taken is as it is to be
 pub record Promises (vertex : ℕ) (size slide : ℤ) (passed : Option ℤ) (held : Table) (promised : List Item) (input : Type 0) (items : List Item) : Type 0 where
@@ -47,6 +62,7 @@ pub record Promises (vertex : ℕ) (size slide : ℤ) (passed : Option ℤ) (hel
   pub closed : EachPair ClosedAfter items → EachPair ClosedAfter promised
   pub events : events_of promised ≡ events_of items
   pub sides : sides_of promised ≡ sides_of items
+  pub idles : idles_of promised ≡ idles_of items
   pub lates : lates_of promised ≡ lates_of items
   pub frames : frames_of promised ≡ []
   pub own : List RowValue
@@ -54,6 +70,17 @@ pub record Promises (vertex : ℕ) (size slide : ℤ) (passed : Option ℤ) (hel
   pub alone : rows_of items ≡ [] → rows_of promised ≡ own
   pub fits : input → Fits vertex size slide passed held (frames_of items) own
   pub kept : IsKept held
+
+-- a frame: all else passes
+abbrev pub IsFrame : Item → Type 0
+IsFrame (item.Event e) = ⊥
+IsFrame (item.Side s) = ⊥
+IsFrame (item.Frame f) = Unit {0}
+IsFrame (item.Row r) = ⊥
+IsFrame (item.Late l) = ⊥
+IsFrame item.Idle = ⊥
+IsFrame (item.Mark m) = ⊥
+IsFrame item.Done = ⊥
 
 -- the rows that are still to be given
 abbrev pub pending_rows : ℕ → ℤ → List (List ℕ × AccValue) → List RowValue
@@ -74,7 +101,11 @@ pub record Combine : Type 0 where
 
 -- what it promises after these entries
 abbrev pub PromisesAfter : Combine → List Entry → List Item → Type 0
-PromisesAfter p taken given = Promises p.vertex p.size p.slide p.passed p.held (given ++ pending p.vertex p.end p.ready) (CombineInput taken) (items_of taken)
+PromisesAfter p taken given = Promises p.vertex p.size p.slide p.passed p.held (given ++ pending p.vertex p.end p.ready) (StageInput taken) (items_of taken)
+
+-- each frame that it holds lies in a window that is open after these entries
+abbrev pub HeldOpen : Combine → List Entry → Type 0
+HeldOpen p taken = IsPolicy p.size p.slide → StageInput taken → Each (λ (f : Place × AccValue). InOpenWindow p.size p.slide (due_after taken) f.0.0) p.held
 
 -- between calls nothing is ready, and what passed is the last mark
 pub record CombineStands (p : Combine) (taken : List Entry) (given : List Item) : Type 0 where
@@ -82,18 +113,21 @@ pub record CombineStands (p : Combine) (taken : List Entry) (given : List Item) 
   pub range : IsWithin most_row_end p.end
   pub put : p.ready ≡ []
   pub tie : Each NotFinish taken → p.passed ≡ last_mark taken
-  pub ended : CombineInput taken → is_finished taken ≡ true → p.held ≡ []
+  pub ended : StageInput taken → is_finished taken ≡ true → p.held ≡ []
+  pub held_open : HeldOpen p taken
 
 -- within a call for a mark, what passed is at most that mark
 pub record Marking (p : Combine) (taken : List Entry) (t : ℤ) (given : List Item) : Type 0 where
   pub promises : PromisesAfter p taken given
   pub range : IsWithin most_row_end p.end
-  pub bound : CombineInput (taken ++ Told t ∷ []) → Passes p.passed t
+  pub bound : StageInput (taken ++ Told t ∷ []) → Passes p.passed t
+  pub held_open : HeldOpen p taken
 
 -- within the finish
 pub record Finishing (p : Combine) (taken : List Entry) (given : List Item) : Type 0 where
   pub promises : PromisesAfter p taken given
   pub range : IsWithin most_row_end p.end
+  pub held_open : HeldOpen p taken
 
 abbrev pub CombineAmid : Combine → List Entry → Entry → List Item → Type 0
 CombineAmid p taken (Given port q x) given = CombineStands p taken given
@@ -105,6 +139,8 @@ CombineAmid p taken Finish given = Finishing p taken given
 pub record Gave (p : Combine) (before : List Item) (q : Combine) (after : List Item) : Type 0 where
   pub put : List Item
   pub puts : after ≡ before ++ put
+  pub forgets : Table
+  pub held : p.held ≡ forgets ++ q.held
   pub vertex : q.vertex ≡ p.vertex
   pub size : q.size ≡ p.size
   pub slide : q.slide ≡ p.slide

@@ -1,5 +1,5 @@
 -- What a combine vertex holds, against the frames that it took and the rows that it gave.
-use Rattle.std.specs.Prelude.{◌≡◌, ℕ, true, false, ℤ, ◌<ℤ◌, ◌≤ℤ◌, List, Option, None, bytes_eq}
+use Rattle.std.specs.Prelude.{◌≡◌, ℕ, true, false, ℤ, ◌<ℤ◌, ◌≤ℤ◌, int_le, List, ◌++◌, Option, None, bytes_eq}
 use Rattle.std.specs.List.{flat_map}
 use Rattle.std.specs.Ordering.{nat_cmp}
 use Rattle.std.specs.Cmp.Lexicographic.{slice_cmp}
@@ -9,8 +9,8 @@ use Rattle.jet_items.specs.Order.{Each, EachPair}
 use Rattle.jet_items.specs.Totals.{total}
 use Rattle.jet_items.specs.Values.{AccValue, FrameValue, RowValue}
 use Rattle.jet_window.specs.FrameTables.{Table, IsKept, held_in}
-use Rattle.jet_window.specs.Tables.{is_multiple}
-use Rattle.jet_window.specs.Taken.{is_due}
+use Rattle.jet_window.specs.Tables.{Place, is_multiple}
+use Rattle.jet_window.specs.Taken.{is_due, InOpenWindow}
 use Rattle.jet_window.specs.WindowRows.{as_list, RowsAre}
 
 -- a row that is still to be given
@@ -40,6 +40,10 @@ pub record TakesUp (size slide : ℤ) (passed : Option ℤ) (held : Table) (e : 
 pub record Clear (size slide : ℤ) (passed : Option ℤ) (held : Table) (t : ℤ) : Type 0 where
   pub none : (d : ℤ) (key : List ℕ) → is_multiple slide d ≡ true → is_due passed d ≡ false → d ≤ℤ t → total (held_in size d key) held ≡ None
 
+-- each frame lies in a window that ends above t
+abbrev pub OpenAbove : ℤ → ℤ → ℤ → Table → Type 0
+OpenAbove size slide t held = Each (λ (f : Place × AccValue). InOpenWindow size slide (λ e. int_le e t) f.0.0) held
+
 -- what was due stays due
 pub record Passes (passed : Option ℤ) (t : ℤ) : Type 0 where
   pub stays : (d : ℤ) → is_due passed d ≡ true → d ≤ℤ t
@@ -48,3 +52,6 @@ pub record Passes (passed : Option ℤ) (t : ℤ) : Type 0 where
 pub record Forgets (size slide : ℤ) (passed : Option ℤ) (held rest : Table) : Type 0 where
   pub leaves : (d : ℤ) (key : List ℕ) → is_multiple slide d ≡ true → is_due passed d ≡ false → total (held_in size d key) rest ≡ total (held_in size d key) held
   pub kept : IsKept held → IsKept rest
+  -- what is forgotten stood first
+  pub first : Table
+  pub held_is : held ≡ first ++ rest

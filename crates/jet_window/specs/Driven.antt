@@ -14,6 +14,7 @@ entry_of (item.Side s) = Given Stream 0 (item.Side s)
 entry_of (item.Frame f) = Given Stream 0 (item.Frame f)
 entry_of (item.Row r) = Given Stream 0 (item.Row r)
 entry_of (item.Late l) = Given Stream 0 (item.Late l)
+entry_of item.Idle = Given Stream 0 item.Idle
 entry_of (item.Mark t) = Told t
 entry_of item.Done = Finish
 

@@ -9,13 +9,14 @@ use Rattle.jet_items.specs.Order.{Each, Sound, Closed as ClosedItems}
 use Rattle.jet_items.specs.Values.{AccValue, EventValue, FrameValue, LateValue}
 use Rattle.jet_items.specs.declared.item.Item.{Item}
 use Rattle.jet_items.specs.declared.item.Item.TheVariants as item
+use Rattle.jet_items.proofs.Orders.{Each-more}
 use Rattle.jet_boxes.specs.Entry.{Entry, items_of, NotDone}
 use Rattle.jet_window.specs.FrameStands.{FrameBag, FrameStands}
 use Rattle.jet_window.specs.FrameTables.{Table, frame_of}
 use Rattle.jet_window.specs.LateEvents.{is_late, brought, late_by, kept_by, late_items, kept_events}
-use Rattle.jet_window.specs.Passing.{closed_front, sound_front, no_events_none, no_events_sound}
+use Rattle.jet_window.specs.Passing.{closed_front, sound_front, input_front, input_open, no_events_none, no_events_sound, open_due, due_next}
 use Rattle.jet_window.specs.Tables.{Place}
-use Rattle.jet_window.specs.Taken.{is_due}
+use Rattle.jet_window.specs.Taken.{is_due, due_after}
 
 late_event_of : (e : EventValue) (b : Bool) (vertex : ℕ) (w : EventValue → ℕ) → sum_by w (map (λ (l : LateValue). l.event) (cond b (record { vertex = vertex; event = e } ∷ []) [])) ≡ sum_by w (cond b (e ∷ []) [])
 late_event_of e true vertex w = refl
@@ -31,29 +32,30 @@ either_way e false w = omega arith
 
 -- each event is late or kept
 parts_from : (vertex : ℕ) (slide : ℤ) (last : Option ℤ) (xs : List Item) (w : EventValue → ℕ)
-    → sum_by w (events_of xs) + sum_by w (late_events xs) ≡ sum_by w (map (λ (l : LateValue). l.event) (brought (late_by vertex slide) last xs)) + sum_by w (brought (kept_by slide) last xs)
+    → sum_by w (events_of xs) + sum_by w (late_events xs) ≡ sum_by w (map (λ (l : LateValue). l.event) (brought (late_by vertex slide None) last xs)) + sum_by w (brought (kept_by slide None) last xs)
 parts_from vertex slide last [] w = refl
 parts_from vertex slide last (item.Event e ∷ xs) w =
     let b : Bool = is_late slide last e.ts in
     let l : List LateValue = cond b (record { vertex = vertex; event = e } ∷ []) [] in
     let ev : LateValue → EventValue = λ l. l.event in
     let ih = parts_from vertex slide last xs w in
-    let m : sum_by w (map ev (l ++ brought (late_by vertex slide) last xs)) ≡ sum_by w (map ev l) + sum_by w (map ev (brought (late_by vertex slide) last xs)) =
-    ap (sum_by w) (map_append ev l (brought (late_by vertex slide) last xs)) ∙ sum_by-append w (map ev l) (map ev (brought (late_by vertex slide) last xs)) in
-    omega (arith, ih, m, late_event_of e b vertex w, either_way e b w, sum_by-append w (cond b [] (e ∷ [])) (brought (kept_by slide) last xs), sum_by-cons w e (events_of xs), sum_by-cons w e [])
+    let m : sum_by w (map ev (l ++ brought (late_by vertex slide None) last xs)) ≡ sum_by w (map ev l) + sum_by w (map ev (brought (late_by vertex slide None) last xs)) =
+    ap (sum_by w) (map_append ev l (brought (late_by vertex slide None) last xs)) ∙ sum_by-append w (map ev l) (map ev (brought (late_by vertex slide None) last xs)) in
+    omega (arith, ih, m, late_event_of e b vertex w, either_way e b w, sum_by-append w (cond b [] (e ∷ [])) (brought (kept_by slide None) last xs), sum_by-cons w e (events_of xs), sum_by-cons w e [])
 parts_from vertex slide last (item.Side e ∷ xs) w = parts_from vertex slide last xs w
 parts_from vertex slide last (item.Frame e ∷ xs) w = parts_from vertex slide last xs w
 parts_from vertex slide last (item.Row e ∷ xs) w = parts_from vertex slide last xs w
-parts_from vertex slide last (item.Late l ∷ xs) w = omega (arith, parts_from vertex slide last xs w, sum_by-cons w l.event (late_events xs), sum_by-cons w l.event (map (λ (l : LateValue). l.event) (brought (late_by vertex slide) last xs)))
+parts_from vertex slide last (item.Late l ∷ xs) w = omega (arith, parts_from vertex slide last xs w, sum_by-cons w l.event (late_events xs), sum_by-cons w l.event (map (λ (l : LateValue). l.event) (brought (late_by vertex slide None) last xs)))
+parts_from vertex slide last (item.Idle ∷ xs) w = parts_from vertex slide last xs w
 parts_from vertex slide last (item.Mark t ∷ xs) w = parts_from vertex slide (Some t) xs w
 parts_from vertex slide last (item.Done ∷ xs) w = parts_from vertex slide last xs w
 
-parts_of : (vertex : ℕ) (slide : ℤ) (xs given : List Item) → lates_of given ≡ late_items vertex slide xs → SameBag (events_of xs ++ late_events xs) (late_events given ++ kept_events slide xs)
+parts_of : (vertex : ℕ) (slide : ℤ) (xs given : List Item) → lates_of given ≡ late_items vertex slide None xs → SameBag (events_of xs ++ late_events xs) (late_events given ++ kept_events slide None xs)
 parts_of vertex slide xs given h = record {
   weighs = λ w.
       let ev : LateValue → EventValue = λ l. l.event in
-      let same : sum_by w (late_events given) ≡ sum_by w (map ev (late_items vertex slide xs)) = ap (λ (ls : List LateValue). sum_by w (map ev ls)) h in
-      omega (arith, same, parts_from vertex slide None xs w, sum_by-append w (events_of xs) (late_events xs), sum_by-append w (late_events given) (kept_events slide xs));
+      let same : sum_by w (late_events given) ≡ sum_by w (map ev (late_items vertex slide None xs)) = ap (λ (ls : List LateValue). sum_by w (map ev ls)) h in
+      omega (arith, same, parts_from vertex slide None xs w, sum_by-append w (events_of xs) (late_events xs), sum_by-append w (late_events given) (kept_events slide None xs));
 }
 
 -- ---- the laws
@@ -62,36 +64,68 @@ above_frames vertex last [] h = tt
 above_frames vertex last (f ∷ fs) h = (h.0, above_frames vertex last fs h.1)
 
 -- nothing is lost, made up or given twice
-pub frame_bag : (vertex : ℕ) (slide : ℤ) (last : Option ℤ) (held : Table) (taken : List Entry) (given : List Item) → FrameStands vertex slide last held taken given → FrameBag vertex slide (map (frame_of vertex) held) taken given
-frame_bag vertex slide last held taken given h = record {
+pub frame_bag : (vertex : ℕ) (slide : ℤ) (last : Option ℤ) (held : Table) (told taken : List Entry) (given : List Item) → FrameStands vertex slide last held told taken given → FrameBag vertex slide None (map (frame_of vertex) held) told taken given
+frame_bag vertex slide last held told taken given h = record {
   lates = h.lates;
   parts = parts_of vertex slide (items_of taken) given h.lates;
   own = h.own;
   passed = h.passed;
+  alone = h.alone;
+  closed = h.own_closed;
+  rising = h.rising;
   vertices = h.vertices;
   sums = h.sums;
-  few = subst (λ (n : ℕ). length h.own + n ≤ length (kept_events slide (items_of taken))) (sym (length-map held (frame_of vertex))) h.few;
+  few = subst (λ (n : ℕ). length h.own + n ≤ length (kept_events slide None (items_of taken))) (sym (length-map held (frame_of vertex))) h.few;
   above = subst (λ (o : Option ℤ). Each (λ (f : FrameValue). is_due o f.end ≡ false) (map (frame_of vertex) held)) h.tie (above_frames vertex last held h.above);
   ended = λ front is. ap (λ (t : Table). map (frame_of vertex) t) (h.ended front is);
   events = no_events_none given h.no_events;
   rows = h.rows;
   sides = h.sides;
+  idles = h.idles;
 }
 
 -- where what was taken is sound, what was given is
-pub frame_sound : (behind : ℕ → ℕ → Bool) (vertex : ℕ) (slide : ℤ) (last : Option ℤ) (held : Table) (taken : List Entry) (given : List Item) → FrameStands vertex slide last held taken given → Sound behind (items_of taken) → Sound behind given
-frame_sound behind vertex slide last held taken given h s = record { after = no_events_sound behind given h.no_events; lates = h.behind_lates behind s }
+pub frame_sound : (behind : ℕ → ℕ → Bool) (vertex : ℕ) (slide : ℤ) (last : Option ℤ) (held : Table) (told taken : List Entry) (given : List Item) → FrameStands vertex slide last held told taken given → Sound behind (items_of taken) → Sound behind given
+frame_sound behind vertex slide last held told taken given h s = record { after = no_events_sound behind given h.no_events; lates = h.behind_lates behind s }
 
 -- where what was taken is closed, what was given is
-pub frame_closed : (vertex : ℕ) (slide : ℤ) (last : Option ℤ) (held : Table) (taken : List Entry) (given : List Item) → FrameStands vertex slide last held taken given → ClosedItems (items_of taken) → ClosedItems given
-frame_closed vertex slide last held taken given h i = record { after = h.closed i.after }
+pub frame_closed : (vertex : ℕ) (slide : ℤ) (last : Option ℤ) (held : Table) (told taken : List Entry) (given : List Item) → FrameStands vertex slide last held told taken given → ClosedItems (items_of taken) → ClosedItems given
+frame_closed vertex slide last held told taken given h i = record { after = h.closed i.after }
 
-pub frame_sound_amid : (behind : ℕ → ℕ → Bool) (vertex : ℕ) (slide : ℤ) (last : Option ℤ) (held : Table) (taken : List Entry) (entry : Entry) (given : List Item) → FrameStands vertex slide last held taken given → Sound behind (items_of (taken ++ entry ∷ [])) → Sound behind given
-frame_sound_amid behind vertex slide last held taken entry given h s = frame_sound behind vertex slide last held taken given h (sound_front behind taken entry s)
+pub frame_sound_amid : (behind : ℕ → ℕ → Bool) (vertex : ℕ) (slide : ℤ) (last : Option ℤ) (held : Table) (taken : List Entry) (entry : Entry) (given : List Item) → FrameStands vertex slide last held (taken ++ entry ∷ []) taken given → Sound behind (items_of (taken ++ entry ∷ [])) → Sound behind given
+frame_sound_amid behind vertex slide last held taken entry given h s = frame_sound behind vertex slide last held (taken ++ entry ∷ []) taken given h (sound_front behind taken entry s)
 
-pub frame_closed_amid : (vertex : ℕ) (slide : ℤ) (last : Option ℤ) (held : Table) (taken : List Entry) (entry : Entry) (given : List Item) → FrameStands vertex slide last held taken given → ClosedItems (items_of (taken ++ entry ∷ [])) → ClosedItems given
-frame_closed_amid vertex slide last held taken entry given h s = frame_closed vertex slide last held taken given h (record { after = closed_front taken entry s.after })
+pub frame_closed_amid : (vertex : ℕ) (slide : ℤ) (last : Option ℤ) (held : Table) (taken : List Entry) (entry : Entry) (given : List Item) → FrameStands vertex slide last held (taken ++ entry ∷ []) taken given → ClosedItems (items_of (taken ++ entry ∷ [])) → ClosedItems given
+frame_closed_amid vertex slide last held taken entry given h s = frame_closed vertex slide last held (taken ++ entry ∷ []) taken given h (record { after = closed_front taken entry s.after })
 
 -- no end was given
-pub frame_open : (vertex : ℕ) (slide : ℤ) (last : Option ℤ) (held : Table) (taken : List Entry) (given : List Item) → FrameStands vertex slide last held taken given → Each NotDone given
-frame_open vertex slide last held taken given h = h.open_ended
+pub frame_open : (vertex : ℕ) (slide : ℤ) (last : Option ℤ) (held : Table) (told taken : List Entry) (given : List Item) → FrameStands vertex slide last held told taken given → Each NotDone given
+frame_open vertex slide last held told taken given h = h.open_ended
+
+-- a call may begin: what was closed before stays closed
+pub frame_begins : (vertex : ℕ) (slide : ℤ) (last : Option ℤ) (held : Table) (taken : List Entry) (entry : Entry) (given : List Item) → FrameStands vertex slide last held taken taken given → FrameStands vertex slide last held (taken ++ entry ∷ []) taken given
+frame_begins vertex slide last held taken entry given h = record {
+  tie = h.tie;
+  behind_lates = h.behind_lates;
+  no_events = h.no_events;
+  open_ended = h.open_ended;
+  marks = h.marks;
+  marks_due = h.marks_due;
+  closed = h.closed;
+  lates = h.lates;
+  own = h.own;
+  passed = h.passed;
+  alone = h.alone;
+  own_closed = λ i. Each-more (λ (f : FrameValue). due_after taken f.end ≡ true) (λ (f : FrameValue). due_after (taken ++ entry ∷ []) f.end ≡ true)
+      (λ f d. due_next taken entry i f.end (open_due taken f.end (input_open taken entry i) d)) h.own (h.own_closed (input_front taken entry i));
+  rising = λ i. h.rising (input_front taken entry i);
+  vertices = h.vertices;
+  sums = h.sums;
+  few = h.few;
+  above = h.above;
+  ended = h.ended;
+  rows = h.rows;
+  sides = h.sides;
+  idles = h.idles;
+  kept = h.kept;
+}

@@ -22,6 +22,10 @@ frame_of vertex f = record { vertex = vertex; end = f.0.0; key = f.0.1; acc = f.
 abbrev pub held_in : ℤ → ℤ → List ℕ → Place × AccValue → Option AccValue
 held_in size e key f = only (bytes_eq f.0.1 key && covers size e f.0.0) f.1
 
+-- frames rise by end, then key
+abbrev pub FramesRise : FrameValue → FrameValue → Type 0
+FramesRise f g = place_cmp (f.end, f.key) (g.end, g.key) ≡ Less
+
 -- places rise
 abbrev pub Ordered : Table → Type 0
 Ordered table = EachPair (λ (f g : Place × AccValue). place_cmp f.0 g.0 ≡ Less) table

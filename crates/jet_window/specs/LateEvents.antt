@@ -1,5 +1,5 @@
 -- Which events come late at a window vertex, and which are kept.
-use Rattle.std.specs.Prelude.{ℕ, Bool, false, cond, ℤ, int_lt, List, [], ◌∷◌, ◌++◌, Option, Some, None}
+use Rattle.std.specs.Prelude.{ℕ, Bool, false, ◌||◌, cond, ℤ, int_lt, List, [], ◌∷◌, ◌++◌, Option, Some, None}
 use Rattle.jet_items.specs.Grid.{floor_to}
 use Rattle.jet_items.specs.Kinds.{as_mark}
 use Rattle.jet_items.specs.Values.{EventValue, LateValue}
@@ -17,29 +17,35 @@ abbrev pub brought : {X : Type 0} → (Option ℤ → Item → List X) → Optio
 brought f last [] = []
 brought f last (x ∷ xs) = f last x ++ brought f (last_from last (as_mark x)) xs
 
+-- late by the mark that a vertex began with, or by the last one that it took
+abbrev pub comes_late : ℤ → Option ℤ → Option ℤ → ℤ → Bool
+comes_late slide begun last ts = is_late slide begun ts || is_late slide last ts
+
 -- an event that is late gives a late item of the vertex; a late item that was taken passes
-abbrev pub late_by : ℕ → ℤ → Option ℤ → Item → List LateValue
-late_by vertex slide last (item.Event e) = cond (is_late slide last e.ts) (record { vertex = vertex; event = e } ∷ []) []
-late_by vertex slide last (item.Side s) = []
-late_by vertex slide last (item.Frame f) = []
-late_by vertex slide last (item.Row r) = []
-late_by vertex slide last (item.Late l) = l ∷ []
-late_by vertex slide last (item.Mark m) = []
-late_by vertex slide last item.Done = []
+abbrev pub late_by : ℕ → ℤ → Option ℤ → Option ℤ → Item → List LateValue
+late_by vertex slide begun last (item.Event e) = cond (comes_late slide begun last e.ts) (record { vertex = vertex; event = e } ∷ []) []
+late_by vertex slide begun last (item.Side s) = []
+late_by vertex slide begun last (item.Frame f) = []
+late_by vertex slide begun last (item.Row r) = []
+late_by vertex slide begun last (item.Late l) = l ∷ []
+late_by vertex slide begun last item.Idle = []
+late_by vertex slide begun last (item.Mark m) = []
+late_by vertex slide begun last item.Done = []
 
 -- the other events are kept
-abbrev pub kept_by : ℤ → Option ℤ → Item → List EventValue
-kept_by slide last (item.Event e) = cond (is_late slide last e.ts) [] (e ∷ [])
-kept_by slide last (item.Side s) = []
-kept_by slide last (item.Frame f) = []
-kept_by slide last (item.Row r) = []
-kept_by slide last (item.Late l) = []
-kept_by slide last (item.Mark m) = []
-kept_by slide last item.Done = []
+abbrev pub kept_by : ℤ → Option ℤ → Option ℤ → Item → List EventValue
+kept_by slide begun last (item.Event e) = cond (comes_late slide begun last e.ts) [] (e ∷ [])
+kept_by slide begun last (item.Side s) = []
+kept_by slide begun last (item.Frame f) = []
+kept_by slide begun last (item.Row r) = []
+kept_by slide begun last (item.Late l) = []
+kept_by slide begun last item.Idle = []
+kept_by slide begun last (item.Mark m) = []
+kept_by slide begun last item.Done = []
 
--- the late items that a vertex gives for these items, and the events that it keeps
-abbrev pub late_items : ℕ → ℤ → List Item → List LateValue
-late_items vertex slide xs = brought (late_by vertex slide) None xs
+-- the late items that a vertex gives for these items, and the events that it keeps, where it began with this mark or none
+abbrev pub late_items : ℕ → ℤ → Option ℤ → List Item → List LateValue
+late_items vertex slide begun xs = brought (late_by vertex slide begun) None xs
 
-abbrev pub kept_events : ℤ → List Item → List EventValue
-kept_events slide xs = brought (kept_by slide) None xs
+abbrev pub kept_events : ℤ → Option ℤ → List Item → List EventValue
+kept_events slide begun xs = brought (kept_by slide begun) None xs

@@ -1,13 +1,16 @@
+pub mod CombineCalls
 pub mod CombineLaws
 pub mod CombineStands
 pub mod CombineView
 pub mod Combining
 pub mod Driven
+pub mod FrameCalls
 pub mod FrameLaws
 pub mod FrameMoves
 pub mod FrameStands
 pub mod FrameTables
 pub mod Held
+pub mod Idles
 pub mod InOrder
 pub mod LateEvents
 pub mod NextEnds

@@ -1,6 +1,8 @@
 -- Lists of items and entries with one more, and what follows the marks in them.
-use Rattle.std.proofs.Common.{◌≡◌, ℕ, Bool, true, false, ℤ, List, [], ◌∷◌, ◌++◌, Option, Some, None, refl, sym, ◌∙◌, ap, subst, arith, append-nil, append_assoc}
+use Rattle.std.proofs.Common.{◌≡◌, ℕ, Bool, true, false, ◌||◌, ℤ, ◌<ℤ◌, ◌≤ℤ◌, List, [], ◌∷◌, ◌++◌, Option, Some, None, refl, sym, ◌∙◌, ap, subst, arith, append-nil, append_assoc}
+use Rattle.std.specs.Prelude.{int_le}
 use Rattle.std.specs.List.{flat_map}
+use Rattle.std.proofs.lemmas.Int.{ints}
 use Rattle.std.proofs.lemmas.List.Concat.{flat_map-append}
 use Rattle.std.proofs.lemmas.List.Sums.{sum_by-append}
 use Rattle.jet_items.specs.Bag.{SameBag}
@@ -8,11 +10,12 @@ use Rattle.jet_items.specs.Kinds.{marks_of, as_mark, events_of}
 use Rattle.jet_items.specs.Order.{Each, EachPair, Sound, SoundAfter, SoundBelow, ClosedAfter, IsAbove}
 use Rattle.jet_items.specs.declared.item.Item.{Item}
 use Rattle.jet_items.specs.declared.item.Item.TheVariants as item
+use Rattle.jet_items.proofs.Covering.{Decides-int_le}
 use Rattle.jet_items.proofs.Orders.{Each-append, Each-more, Each-front, Each-back, EachPair-append, EachPair-front, EachPair-across, EachPair-back, Shadows, Sound-front}
 use Rattle.jet_boxes.specs.declared.port.Port.{Port}
-use Rattle.jet_boxes.specs.Entry.{Entry, Given, Told, Closed, Finish, items_of, entry_items, NotFinish, IsData, MayAll, MayCome, NotDone}
+use Rattle.jet_boxes.specs.Entry.{Entry, Given, Told, Closed, Finish, items_of, entry_items, NotFinish, IsData, MayAll, MayCome, NotDone, AnyQueue}
 use Rattle.jet_window.specs.FrameStands.{NoEvent}
-use Rattle.jet_window.specs.Taken.{last_from, last_mark, is_finished, AnyQueue, CombineInput}
+use Rattle.jet_window.specs.Taken.{last_from, last_mark, is_due, is_finished, due_after, StageInput}
 
 -- ---- orders that are taken over
 pub Shadows-append : {X : Type 0} (R : X → X → Type 0) (xs ys us vs : List X) → Shadows R xs ys → Shadows R us vs → Shadows R (xs ++ us) (ys ++ vs)
@@ -86,12 +89,26 @@ bag_both f xs ys own x h =
       );
     })
 
+both_none : {X : Type 0} (xs ys : List X) → xs ++ ys ≡ [] → (xs ≡ []) × (ys ≡ [])
+both_none [] ys h = (refl, h)
+both_none (x ∷ xs) ys h = absurd (never h)
+  where
+    never : x ∷ (xs ++ ys) ≡ [] → ⊥
+    never h = absurd (cc)
+
+-- where nothing of a kind was taken, all that was given of it is the vertex's own
+pub alone_push : {X : Type 0} (f : Item → List X) (given items : List Item) (own : List X) (x : Item) → (flat_map f items ≡ [] → flat_map f given ≡ own) → flat_map f (items ++ x ∷ []) ≡ [] → flat_map f (given ++ x ∷ []) ≡ own
+alone_push f given items own x alone none =
+    let parts = both_none (flat_map f items) (flat_map f (x ∷ [])) (sym (flat_map-append f items (x ∷ [])) ∙ none) in
+    flat_map-append f given (x ∷ []) ∙ (ap (λ (us : List _). flat_map f given ++ us) parts.1 ∙ (append-nil (flat_map f given) ∙ alone parts.0))
+
 pub marks_none : (x : Item) → IsData x → as_mark x ≡ []
 marks_none (item.Event e) h = refl
 marks_none (item.Side e) h = refl
 marks_none (item.Frame e) h = refl
 marks_none (item.Row e) h = refl
 marks_none (item.Late e) h = refl
+marks_none item.Idle h = refl
 marks_none (item.Mark e) h = absurd h
 marks_none item.Done h = absurd h
 
@@ -101,8 +118,16 @@ data_open (item.Side e) h = tt
 data_open (item.Frame e) h = tt
 data_open (item.Row e) h = tt
 data_open (item.Late e) h = tt
+data_open item.Idle h = tt
 data_open (item.Mark e) h = tt
 data_open item.Done h = absurd h
+
+pub closed_last : (taken : List Entry) (port : Port) (q : ℕ) → last_mark (taken ++ Closed port q ∷ []) ≡ last_mark taken
+closed_last taken port q = ap (λ (xs : List Item). last_from None (marks_of xs)) (items_push taken (Closed port q) ∙ append-nil (items_of taken))
+
+-- a mark that is told is the last
+pub told_last : (taken : List Entry) (t : ℤ) → last_mark (taken ++ Told t ∷ []) ≡ Some t
+told_last taken t = ap (λ (xs : List Item). last_from None (marks_of xs)) (items_push taken (Told t)) ∙ (ap (last_from None) (flat_map-append as_mark (items_of taken) (item.Mark t ∷ [])) ∙ last_push None (marks_of (items_of taken)) t)
 
 pub same_last : (taken : List Entry) (port : Port) (q : ℕ) (x : Item) → as_mark x ≡ [] → last_mark (taken ++ Given port q x ∷ []) ≡ last_mark taken
 same_last taken port q x none = ap (last_from None) (ap marks_of (items_push taken (Given port q x)) ∙ of_none as_mark (items_of taken) x none)
@@ -119,6 +144,7 @@ after_marks (item.Side e ∷ xs) ys h k = (free_after (item.Side e) (λ y. tt) y
 after_marks (item.Frame e ∷ xs) ys h k = (free_after (item.Frame e) (λ y. tt) ys, after_marks xs ys h.1 k)
 after_marks (item.Row e ∷ xs) ys h k = (free_after (item.Row e) (λ y. tt) ys, after_marks xs ys h.1 k)
 after_marks (item.Late e ∷ xs) ys h k = (free_after (item.Late e) (λ y. tt) ys, after_marks xs ys h.1 k)
+after_marks (item.Idle ∷ xs) ys h k = (free_after item.Idle (λ y. tt) ys, after_marks xs ys h.1 k)
 after_marks (item.Mark w ∷ xs) ys h k = (k.0, after_marks xs ys h.1 k.1)
 after_marks (item.Done ∷ xs) ys h k = absurd h.0
 
@@ -130,6 +156,7 @@ marks_before (item.Side e ∷ xs) ys h = marks_before xs ys h.1
 marks_before (item.Frame e ∷ xs) ys h = marks_before xs ys h.1
 marks_before (item.Row e ∷ xs) ys h = marks_before xs ys h.1
 marks_before (item.Late e ∷ xs) ys h = marks_before xs ys h.1
+marks_before (item.Idle ∷ xs) ys h = marks_before xs ys h.1
 marks_before (item.Mark w ∷ xs) ys h = (h.0, marks_before xs ys h.1)
 marks_before (item.Done ∷ xs) ys h = marks_before xs ys h.1
 
@@ -153,6 +180,7 @@ marks_sound behind y (item.Side e ∷ xs) h = marks_sound behind y xs h.1
 marks_sound behind y (item.Frame e ∷ xs) h = marks_sound behind y xs h.1
 marks_sound behind y (item.Row e ∷ xs) h = marks_sound behind y xs h.1
 marks_sound behind y (item.Late e ∷ xs) h = marks_sound behind y xs h.1
+marks_sound behind y (item.Idle ∷ xs) h = marks_sound behind y xs h.1
 marks_sound behind y (item.Mark w ∷ xs) h = (h.0.0, marks_sound behind y xs h.1)
 marks_sound behind y (item.Done ∷ xs) h = marks_sound behind y xs h.1
 
@@ -172,14 +200,14 @@ come_open taken (Told t) h = h
 come_open taken (Closed port q) h = h.0
 come_open taken Finish h = h
 
-pub input_front : (taken : List Entry) (e : Entry) → CombineInput (taken ++ e ∷ []) → CombineInput taken
+pub input_front : (taken : List Entry) (e : Entry) → StageInput (taken ++ e ∷ []) → StageInput taken
 input_front taken e h = record { closed = record { after = closed_front taken e h.closed.after }; comes = comes_front taken e h.comes }
 
-pub input_open : (taken : List Entry) (e : Entry) → CombineInput (taken ++ e ∷ []) → Each NotFinish taken
+pub input_open : (taken : List Entry) (e : Entry) → StageInput (taken ++ e ∷ []) → Each NotFinish taken
 input_open taken e h = come_open taken e (h.comes taken e [] refl)
 
 -- the marks taken are below what came after them
-pub input_above : (taken : List Entry) (e : Entry) → CombineInput (taken ++ e ∷ []) → Each (λ w. Each (IsAbove w) (entry_items e ++ [])) (marks_of (items_of taken))
+pub input_above : (taken : List Entry) (e : Entry) → StageInput (taken ++ e ∷ []) → Each (λ w. Each (IsAbove w) (entry_items e ++ [])) (marks_of (items_of taken))
 input_above taken e h = marks_before (items_of taken) (entry_items e ++ []) (EachPair-across ClosedAfter (items_of taken) (entry_items e ++ []) (subst (EachPair ClosedAfter) (items_push taken e) h.closed.after))
 
 -- ---- the finish
@@ -200,16 +228,6 @@ unfinished (Told t ∷ es) h = unfinished es h.1
 unfinished (Closed port q ∷ es) h = unfinished es h.1
 unfinished (Finish ∷ es) h = absurd h.0
 
-pub finished_push : (taken : List Entry) (e : Entry) → NotFinish e → is_finished (taken ++ e ∷ []) ≡ true → is_finished taken ≡ true
-finished_push [] (Given port q x) n h = h
-finished_push [] (Told t) n h = h
-finished_push [] (Closed port q) n h = h
-finished_push [] Finish n h = absurd n
-finished_push (Given port q x ∷ es) e n h = finished_push es e n h
-finished_push (Told t ∷ es) e n h = finished_push es e n h
-finished_push (Closed port q ∷ es) e n h = finished_push es e n h
-finished_push (Finish ∷ es) e n h = refl
-
 pub finished_last : (taken : List Entry) → is_finished (taken ++ Finish ∷ []) ≡ true
 finished_last [] = refl
 finished_last (Given port q x ∷ es) = finished_last es
@@ -224,6 +242,84 @@ never_finished (Given port q x ∷ es) h k = never_finished es h k.1
 never_finished (Told t ∷ es) h k = never_finished es h k.1
 never_finished (Closed port q ∷ es) h k = never_finished es h k.1
 never_finished (Finish ∷ es) h k = k.0
+
+-- ---- what is due after one more entry
+-- an entry that is neither a mark nor the finish makes nothing due
+pub finished_same : (taken : List Entry) (e : Entry) → NotFinish e → is_finished (taken ++ e ∷ []) ≡ is_finished taken
+finished_same [] (Given port q x) n = refl
+finished_same [] (Told t) n = refl
+finished_same [] (Closed port q) n = refl
+finished_same [] Finish n = absurd n
+finished_same (Given port q x ∷ es) e n = finished_same es e n
+finished_same (Told t ∷ es) e n = finished_same es e n
+finished_same (Closed port q ∷ es) e n = finished_same es e n
+finished_same (Finish ∷ es) e n = refl
+
+pub given_same : (taken : List Entry) (port : Port) (q : ℕ) (x : Item) (e : ℤ) → as_mark x ≡ [] → due_after (taken ++ Given port q x ∷ []) e ≡ due_after taken e
+given_same taken port q x e none = rw (finished_same taken (Given port q x) tt, same_last taken port q x none) refl
+
+pub closed_same : (taken : List Entry) (port : Port) (q : ℕ) (e : ℤ) → due_after (taken ++ Closed port q ∷ []) e ≡ due_after taken e
+closed_same taken port q e = rw (finished_same taken (Closed port q) tt, closed_last taken port q) refl
+
+either_true : (b c : Bool) → c ≡ true → (b || c) ≡ true
+either_true true c h = refl
+either_true false c h = h
+
+first_true : (b c : Bool) → b ≡ true → (b || c) ≡ true
+first_true true c h = refl
+first_true false c h = absurd (cc)
+
+second_true : (b c : Bool) → b ≡ false → (b || c) ≡ true → c ≡ true
+second_true true c h k = absurd (cc)
+second_true false c h k = k
+
+-- before the finish, what the last mark closed
+pub open_due : (taken : List Entry) (e : ℤ) → Each NotFinish taken → due_after taken e ≡ true → is_due (last_mark taken) e ≡ true
+open_due taken e h d = second_true (is_finished taken) (is_due (last_mark taken) e) (unfinished taken h) d
+
+last_due : (taken : List Entry) (o : Option ℤ) (e : ℤ) → last_mark taken ≡ o → is_due o e ≡ true → due_after taken e ≡ true
+last_due taken o e is d = either_true (is_finished taken) (is_due (last_mark taken) e) (subst (λ (z : Option ℤ). is_due z e ≡ true) (sym is) d)
+
+-- what the last mark did not close is not due
+pub open_due_false : (taken : List Entry) (e : ℤ) → Each NotFinish taken → is_due (last_mark taken) e ≡ false → due_after taken e ≡ false
+open_due_false taken e h d = rw (unfinished taken h) d
+
+-- after a mark what it closes is due, and no more
+pub told_same : (taken : List Entry) (t e : ℤ) → Each NotFinish taken → due_after (taken ++ Told t ∷ []) e ≡ int_le e t
+told_same taken t e h = rw (finished_same taken (Told t) tt, unfinished taken h, told_last taken t) refl
+
+-- after a mark all up to it, after the finish all
+pub told_due : (taken : List Entry) (t e : ℤ) → e ≤ℤ t → due_after (taken ++ Told t ∷ []) e ≡ true
+told_due taken t e h = last_due (taken ++ Told t ∷ []) (Some t) e (told_last taken t) ((Decides-int_le e t).1 h)
+
+pub finish_due : (taken : List Entry) (e : ℤ) → due_after (taken ++ Finish ∷ []) e ≡ true
+finish_due taken e = first_true (is_finished (taken ++ Finish ∷ [])) (is_due (last_mark (taken ++ Finish ∷ [])) e) (finished_last taken)
+
+-- a mark that is told next is above what was closed
+pub told_above : (taken : List Entry) (t e : ℤ) → StageInput (taken ++ Told t ∷ []) → is_due (last_mark taken) e ≡ true → e ≤ℤ t
+told_above taken t e i d = above (last_mark taken) refl d
+  where
+    above : (o : Option ℤ) → last_mark taken ≡ o → is_due o e ≡ true → e ≤ℤ t
+    above None is d = absurd (cc)
+    above (Some p) is d =
+        let below : Each (λ w. w <ℤ t) (marks_of (items_of taken)) = Each-more (λ w. Each (IsAbove w) (item.Mark t ∷ [])) (λ w. w <ℤ t) (λ w k. k.0) (marks_of (items_of taken)) (input_above taken (Told t) i) in
+        let lt : p <ℤ t = from_last (λ w. w <ℤ t) p (marks_of (items_of taken)) below is in
+        let le : e ≤ℤ p = (Decides-int_le e p).0 d in
+        omega (arith, ints)
+
+come_data : (taken : List Entry) (port : Port) (q : ℕ) (x : Item) → StageInput (taken ++ Given port q x ∷ []) → IsData x
+come_data taken port q x i = (i.comes taken (Given port q x) [] refl).2
+
+-- what the last mark closed stays due
+pub due_next : (taken : List Entry) (entry : Entry) → StageInput (taken ++ entry ∷ []) → (e : ℤ) → is_due (last_mark taken) e ≡ true → due_after (taken ++ entry ∷ []) e ≡ true
+due_next taken (Given port q x) i e d = last_due (taken ++ Given port q x ∷ []) (last_mark taken) e (same_last taken port q x (marks_none x (come_data taken port q x i))) d
+due_next taken (Told t) i e d = told_due taken t e (told_above taken t e i d)
+due_next taken (Closed port q) i e d = last_due (taken ++ Closed port q ∷ []) (last_mark taken) e (closed_last taken port q) d
+due_next taken Finish i e d = finish_due taken e
+
+-- after an item that is no mark nothing more is due
+pub due_before : (taken : List Entry) (port : Port) (q : ℕ) (x : Item) (e : ℤ) → as_mark x ≡ [] → StageInput (taken ++ Given port q x ∷ []) → due_after (taken ++ Given port q x ∷ []) e ≡ true → is_due (last_mark taken) e ≡ true
+due_before taken port q x e none i d = open_due taken e (input_open taken (Given port q x) i) (sym (given_same taken port q x e none) ∙ d)
 
 abbrev last_or : Entry → List Entry → Entry
 last_or d [] = d
@@ -245,6 +341,7 @@ no_events_none (item.Side e ∷ xs) h = no_events_none xs h.1
 no_events_none (item.Frame e ∷ xs) h = no_events_none xs h.1
 no_events_none (item.Row e ∷ xs) h = no_events_none xs h.1
 no_events_none (item.Late e ∷ xs) h = no_events_none xs h.1
+no_events_none (item.Idle ∷ xs) h = no_events_none xs h.1
 no_events_none (item.Mark e ∷ xs) h = no_events_none xs h.1
 no_events_none (item.Done ∷ xs) h = no_events_none xs h.1
 
@@ -254,11 +351,13 @@ after_event behind (item.Side e) y h = tt
 after_event behind (item.Frame e) y h = tt
 after_event behind (item.Row e) y h = tt
 after_event behind (item.Late e) y h = tt
+after_event behind item.Idle y h = tt
 after_event behind (item.Mark w) (item.Event e) h = absurd h
 after_event behind (item.Mark w) (item.Side e) h = tt
 after_event behind (item.Mark w) (item.Frame e) h = tt
 after_event behind (item.Mark w) (item.Row e) h = tt
 after_event behind (item.Mark w) (item.Late e) h = tt
+after_event behind (item.Mark w) item.Idle h = tt
 after_event behind (item.Mark w) (item.Mark e) h = tt
 after_event behind (item.Mark w) item.Done h = tt
 after_event behind item.Done y h = tt

@@ -5,6 +5,7 @@ use Rattle.std.specs.Int.{int_rem_euclid}
 use Rattle.std.specs.declared.cmp.Ordering.{Ordering}
 use Rattle.std.specs.Ordering.{nat_cmp, int_cmp, int_eq, ordering_then}
 use Rattle.std.specs.Cmp.Lexicographic.{slice_cmp}
+use Rattle.jet_items.specs.Frames.{only}
 use Rattle.jet_items.specs.Grid.{IsMultiple, in_window}
 use Rattle.jet_items.specs.Rows.{first_value}
 use Rattle.jet_items.specs.Totals.{joined, one}
@@ -31,11 +32,6 @@ row_of vertex e key (Some acc) = Some (record { vertex = vertex; end = e; key = 
 -- the table has at each end and key the row of what is known there
 pub record IsTable (vertex : ℕ) (known : ℤ → List ℕ → Option AccValue) (table : BTreeMap Place RowValue) : Type 0 where
   pub at : (e : ℤ) (key : List ℕ) → get place_cmp table (e, key) ≡ row_of vertex e key (known e key)
-
--- the accumulator, where the test holds
-abbrev pub only : Bool → AccValue → Option AccValue
-only true acc = Some acc
-only false acc = None
 
 abbrev pub is_multiple : ℤ → ℤ → Bool
 is_multiple slide e = int_eq (int_rem_euclid e slide) (pos 0)

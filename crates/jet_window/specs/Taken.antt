@@ -1,9 +1,10 @@
 -- What entries that were taken say: the last mark, whether all was ended, and which window ends are due.
-use Rattle.std.specs.Prelude.{ℕ, Bool, true, false, ◌||◌, ℤ, int_le, List, [], ◌∷◌, Option, Some, None}
+use Rattle.std.specs.Prelude.{◌≡◌, ℕ, Bool, true, false, ◌||◌, ℤ, int_le, List, [], ◌∷◌, Option, Some, None}
+use Rattle.jet_items.specs.Frames.{covers}
 use Rattle.jet_items.specs.Kinds.{marks_of}
 use Rattle.jet_items.specs.Order.{Closed as ClosedItems}
-use Rattle.jet_boxes.specs.declared.port.Port.{Port}
-use Rattle.jet_boxes.specs.Entry.{Entry, Given, Told, Closed, Finish, items_of, MayAll}
+use Rattle.jet_boxes.specs.Entry.{Entry, Given, Told, Closed, Finish, items_of, MayAll, AnyQueue}
+use Rattle.jet_window.specs.Tables.{is_multiple}
 
 -- the last of some marks, or else this one
 abbrev pub last_from : Option ℤ → List ℤ → Option ℤ
@@ -31,11 +32,11 @@ is_finished (Finish ∷ es) = true
 abbrev pub due_after : List Entry → ℤ → Bool
 due_after taken e = is_finished taken || is_due (last_mark taken) e
 
--- it takes from every queue of every port
-abbrev pub AnyQueue : Port → ℕ → Type 0
-AnyQueue port queue = Unit {0}
+-- a frame that ends here lies in a window that is not due
+abbrev pub InOpenWindow : ℤ → ℤ → (ℤ → Bool) → ℤ → Type 0
+InOpenWindow size slide due end = (e : ℤ) × (is_multiple slide e ≡ true) × (covers size e end ≡ true) × (due e ≡ false)
 
--- what a combine vertex is to take: what a mark closed stays closed, and each entry comes when it may, so nothing after the finish
-pub record CombineInput (taken : List Entry) : Type 0 where
+-- what a stage of a window is to take: what a mark closed stays closed, and each entry comes when it may, so nothing after the finish
+pub record StageInput (taken : List Entry) : Type 0 where
   pub closed : ClosedItems (items_of taken)
   pub comes : MayAll AnyQueue taken

@@ -1,18 +1,19 @@
 // The second stage of a sliding window: rows of windows from frames. This is the combine vertex of the two-stage
 // aggregation in Hazelcast Jet's paper.
-ghost use Rattle.std.specs.Prelude.{◌≡◌, ℕ, ℤ, Bool, true, false, length, List, [], ◌∷◌, ◌++◌, OnOk, OnErr, IfSome, IfNone, Some, Ok};
+ghost use Rattle.std.specs.Prelude.{◌≡◌, ℕ, ℤ, Bool, true, false, length, List, [], ◌∷◌, ◌++◌, map, OnOk, OnErr, IfSome, IfNone, Some, None, Ok};
 ghost use Rattle.std.proofs.Common.{◌∙◌, refl};
 ghost use Rattle.jet_items.specs.Kinds.{marks_of};
 ghost use Rattle.jet_items.specs.Order.{Sound, Closed as ClosedItems};
 ghost use Rattle.jet_items.specs.Ranges.{IsWithin, most_row_end};
 ghost use Rattle.jet_items.specs.declared.item.Item.{Item};
-ghost use Rattle.jet_boxes.specs.Entry.{Entry, items_of};
-ghost use Rattle.jet_window.specs.CombineStands.{CombineBag, CombineBagAmid, CombineStands, CombineAmid, Gave, PutsReady};
+ghost use Rattle.jet_boxes.specs.Entry.{Entry, Given, Told, Closed, Finish, items_of};
+ghost use Rattle.jet_window.specs.CombineCalls.{Stands, Amid, Alike, CombineCall, CombineMayCall};
+ghost use Rattle.jet_window.specs.CombineStands.{CombineBag, CombineBagAmid, CombineStands, IsFrame, Gave, PutsReady};
 ghost use Rattle.jet_window.specs.CombineView.{combine_of};
-ghost use Rattle.jet_window.specs.Combining.{Forgets, Clear, Passes};
-ghost use Rattle.jet_window.specs.FrameTables.{IsKept};
+ghost use Rattle.jet_window.specs.Combining.{Forgets, Clear, OpenAbove, Passes};
+ghost use Rattle.jet_window.specs.FrameTables.{frame_of, IsKept};
 ghost use Rattle.jet_window.specs.NextEnds.{IsNextEnd};
-ghost use Rattle.jet_window.specs.Taken.{due_after, CombineInput};
+ghost use Rattle.jet_window.specs.Taken.{due_after, StageInput};
 ghost use Rattle.jet_window.specs.WindowOf.{WindowOf};
 
 use crate::held::{end_above, keep, window_rows};
@@ -26,7 +27,8 @@ use std::collections::BTreeMap;
 ///
 /// `held` has the frames of open windows, `passed` says up to which end windows are done, and `ready` has the rows of
 /// the window at `end` that are still to be put. Only ends of windows that hold a frame are visited, so a mark that
-/// jumps far is cheap.
+/// jumps far is cheap. A frame is forgotten once its last window is closed. A frame wants memory, and a mark or the
+/// finish only where a window is to be closed that has a frame.
 #[derive(Drop)]
 pub struct CombineP {
     vertex: u8,
@@ -136,6 +138,8 @@ impl CombineP {
         ensures room { out.new.room ≡ out.old.room }
         ensures all { result ≡ Ok true → self.new.ready.entries ≡ [] }
         ensures clear { result ≡ Ok true → Clear self.new.policy.size self.new.policy.slide self.new.passed self.new.held.entries t }
+        ensures above { result ≡ Ok true → OpenAbove self.new.policy.size self.new.policy.slide t self.new.held.entries }
+        ensures wants { OnErr result (Clear self.old.policy.size self.old.policy.slide self.old.passed self.old.held.entries t → ⊥) }
         ensures full { result ≡ Ok false → length out.new.items ≡ out.new.room }
     {
         while self.put_ready(out) {
@@ -159,6 +163,7 @@ impl CombineP {
         ensures room { out.new.room ≡ out.old.room }
         ensures all { result ≡ Ok true → self.new.ready.entries ≡ [] }
         ensures none { result ≡ Ok true → self.new.held.entries ≡ [] }
+        ensures wants { OnErr result (self.old.held.entries ≡ [] → ⊥) }
         ensures full { result ≡ Ok false → length out.new.items ≡ out.new.room }
     {
         while self.put_ready(out) {
@@ -172,13 +177,13 @@ impl CombineP {
 }
 
 impl Processor for CombineP {
-    ghost stands = { λ p taken given. CombineStands (combine_of p) taken given };
+    ghost stands = { Stands };
 
-    ghost amid = { λ p taken entry given. CombineAmid (combine_of p) taken entry given };
+    ghost amid = { Amid };
 
     ghost takes = { λ p port queue. Unit {0} };
 
-    ghost same = { λ p q. (q.vertex ≡ p.vertex) × (q.policy ≡ p.policy) };
+    ghost same = { Alike };
 
     ghost frugal = { false };
 
@@ -186,9 +191,9 @@ impl Processor for CombineP {
 
     ghost closed_if = { λ p taken. ClosedItems (items_of taken) };
 
-    ghost bag = { λ p taken given. CombineBag p.vertex p.policy.size p.policy.slide (due_after taken) (CombineInput taken) taken given };
+    ghost bag = { λ p taken given. CombineBag p.vertex p.policy.size p.policy.slide None [] (map (frame_of p.vertex) p.held.entries) (due_after taken) (StageInput taken) taken given };
 
-    ghost bag_amid = { λ p taken entry given. CombineBagAmid p.vertex p.policy.size p.policy.slide taken entry given };
+    ghost bag_amid = { λ p taken entry given. CombineBagAmid p.vertex p.policy.size p.policy.slide None [] (map (frame_of p.vertex) p.held.entries) taken entry given };
 
     ghost marks = { λ p taken given. marks_of given ≡ marks_of (items_of taken) };
 
@@ -200,7 +205,11 @@ impl Processor for CombineP {
         _queue: u32,
         item: &Item,
         out: &mut Outbox,
-    ) -> Result<bool, NoMemory> {
+    ) -> Result<bool, NoMemory>
+        requires { CombineMayCall self.old (Given _port _queue item.now) }
+        ensures call { CombineCall self.old (Given _port _queue item.now) out.old result self.new out.new }
+        ensures memory { OnErr result (IsFrame item.now) }
+    {
         if let Item::Frame(frame) = item {
             keep(&mut self.held, frame.end, frame.key, &frame.acc)?;
             return Ok(true);
@@ -211,7 +220,11 @@ impl Processor for CombineP {
         }
     }
 
-    fn mark(&mut self, mark: Mark, out: &mut Outbox) -> Result<bool, NoMemory> {
+    fn mark(&mut self, mark: Mark, out: &mut Outbox) -> Result<bool, NoMemory>
+        requires { CombineMayCall self.old (Told mark) }
+        ensures call { CombineCall self.old (Told mark) out.old result self.new out.new }
+        ensures memory { OnErr result (Clear self.old.policy.size self.old.policy.slide self.old.passed self.old.held.entries mark → ⊥) }
+    {
         if !self.give_until(mark.t, out)? {
             return Ok(false);
         }
@@ -224,11 +237,18 @@ impl Processor for CombineP {
         }
     }
 
-    fn close_queue(&mut self, _port: Port, _queue: u32, _out: &mut Outbox) -> bool {
+    fn close_queue(&mut self, _port: Port, _queue: u32, _out: &mut Outbox) -> bool
+        ensures call { CombineCall self.old (Closed _port _queue) _out.old (Ok result) self.new _out.new }
+        ensures ends { result ≡ true }
+    {
         true
     }
 
-    fn finish(&mut self, out: &mut Outbox) -> Result<bool, NoMemory> {
+    fn finish(&mut self, out: &mut Outbox) -> Result<bool, NoMemory>
+        requires { CombineMayCall self.old Finish }
+        ensures call { CombineCall self.old Finish out.old result self.new out.new }
+        ensures memory { OnErr result (self.old.held.entries ≡ [] → ⊥) }
+    {
         self.give_all(out)
     }
 

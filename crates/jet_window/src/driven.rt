@@ -36,6 +36,7 @@ pub fn tell<P: Processor>(
     requires { IsReady P.stands P.takes processor.old }
     ensures { result ≡ Ok true → IsNoEnd item.now → IsReady P.stands P.takes processor.new }
 {
+    // Each call but the last puts an item, and no test gives 64 for one item.
     for _ in 0..64 {
         let done = call(processor, item, out)?;
         empty(out, given)?;

@@ -1,6 +1,6 @@
 // The first stage of a sliding window: frames of events. This is the accumulate vertex of the two-stage aggregation
 // in Hazelcast Jet's paper.
-ghost use Rattle.std.specs.Prelude.{◌≡◌, ℕ, ℤ, Bool, true, false, length, List, [], ◌∷◌, ◌++◌, map, pos};
+ghost use Rattle.std.specs.Prelude.{◌≡◌, ℕ, ℤ, Bool, true, false, length, List, [], ◌∷◌, ◌++◌, map, pos, None, Ok, IsOk, OnErr};
 ghost use Rattle.std.proofs.Common.{◌∙◌, sym, refl};
 ghost use Rattle.jet_items.specs.Ranges.{IsWithin, most_time, most_frame_end};
 ghost use Rattle.jet_items.specs.Rows.{first_value};
@@ -9,9 +9,10 @@ ghost use Rattle.jet_items.specs.Totals.{one};
 ghost use Rattle.jet_items.specs.Kinds.{marks_of};
 ghost use Rattle.jet_items.specs.Order.{Sound, Closed as ClosedItems};
 ghost use Rattle.jet_items.specs.declared.item.Item.{Item};
-ghost use Rattle.jet_boxes.specs.Entry.{Entry, items_of};
+ghost use Rattle.jet_boxes.specs.Entry.{Entry, Given, Told, Closed, Finish, items_of};
+ghost use Rattle.jet_window.specs.FrameCalls.{Stands, Amid, Alike, FrameCall, FrameMayCall};
 ghost use Rattle.jet_window.specs.FrameMoves.{Moved, StopsAbove};
-ghost use Rattle.jet_window.specs.FrameStands.{FrameStands, FrameBag};
+ghost use Rattle.jet_window.specs.FrameStands.{FrameStands, FrameBag, IsEvent};
 ghost use Rattle.jet_window.specs.FrameTables.{frame_of, joined_in, IsKept};
 ghost use Rattle.jet_window.specs.LateEvents.{is_late};
 
@@ -25,7 +26,8 @@ use std::collections::BTreeMap;
 /// Joins the events of each frame and key: what a job's accumulate vertex does.
 ///
 /// An event below the slide's greatest multiple that is at most the last mark is late: it is put as a late item of
-/// this vertex and is not counted. `held` has what is known of each open frame and key.
+/// this vertex and is not counted. `held` has what is known of each open frame and key. A frame is put once, when a mark
+/// closes it or at the finish, and frames are put by end, then key. Only an event wants memory.
 #[derive(Drop)]
 pub struct FrameP {
     vertex: u8,
@@ -58,7 +60,7 @@ impl FrameP {
     pub fn new(alloc: Global, vertex: u8, policy: WinPolicy) -> FrameP
         ensures vertex { result.vertex ≡ vertex }
         ensures policy { result.policy ≡ policy }
-        ensures stands { FrameStands result.vertex result.policy.slide result.last result.held.entries [] [] }
+        ensures stands { FrameStands result.vertex result.policy.slide result.last result.held.entries [] [] [] }
     {
         FrameP {
             vertex,
@@ -75,7 +77,7 @@ impl FrameP {
         ensures policy { self.new.policy ≡ self.old.policy }
         ensures last { self.new.last ≡ self.old.last }
         ensures room { out.new.room ≡ out.old.room }
-        ensures moved { Moved self.old.vertex self.old.held.entries out.old.items self.new.held.entries out.new.items }
+        ensures moved { Moved self.old.vertex t self.old.held.entries out.old.items self.new.held.entries out.new.items }
         ensures stops { result ≡ true → StopsAbove t self.new.held.entries }
         ensures full { result ≡ false → length out.new.items ≡ out.new.room }
     {
@@ -99,13 +101,13 @@ impl FrameP {
 }
 
 impl Processor for FrameP {
-    ghost stands = { λ p taken given. FrameStands p.vertex p.policy.slide p.last p.held.entries taken given };
+    ghost stands = { Stands };
 
-    ghost amid = { λ p taken entry given. FrameStands p.vertex p.policy.slide p.last p.held.entries taken given };
+    ghost amid = { Amid };
 
     ghost takes = { λ p port queue. Unit {0} };
 
-    ghost same = { λ p q. (q.vertex ≡ p.vertex) × (q.policy ≡ p.policy) };
+    ghost same = { Alike };
 
     ghost frugal = { false };
 
@@ -113,10 +115,10 @@ impl Processor for FrameP {
 
     ghost closed_if = { λ p taken. ClosedItems (items_of taken) };
 
-    ghost bag = { λ p taken given. FrameBag p.vertex p.policy.slide (map (frame_of p.vertex) p.held.entries) taken given };
+    ghost bag = { λ p taken given. FrameBag p.vertex p.policy.slide None (map (frame_of p.vertex) p.held.entries) taken taken given };
 
     // A call that isn't ended has put only frames that were held, so its entry is not counted here.
-    ghost bag_amid = { λ p taken entry given. FrameBag p.vertex p.policy.slide (map (frame_of p.vertex) p.held.entries) taken given };
+    ghost bag_amid = { λ p taken entry given. FrameBag p.vertex p.policy.slide None (map (frame_of p.vertex) p.held.entries) (taken ++ entry ∷ []) taken given };
 
     ghost marks = { λ p taken given. marks_of given ≡ marks_of (items_of taken) };
 
@@ -128,7 +130,11 @@ impl Processor for FrameP {
         _queue: u32,
         item: &Item,
         out: &mut Outbox,
-    ) -> Result<bool, NoMemory> {
+    ) -> Result<bool, NoMemory>
+        requires { FrameMayCall self.old (Given _port _queue item.now) }
+        ensures call { FrameCall self.old (Given _port _queue item.now) out.old result self.new out.new }
+        ensures memory { OnErr result (IsEvent item.now) }
+    {
         let Item::Event(event) = item else {
             return Ok(put(out, *item));
         };
@@ -144,7 +150,11 @@ impl Processor for FrameP {
         Ok(true)
     }
 
-    fn mark(&mut self, mark: Mark, out: &mut Outbox) -> Result<bool, NoMemory> {
+    fn mark(&mut self, mark: Mark, out: &mut Outbox) -> Result<bool, NoMemory>
+        requires { FrameMayCall self.old (Told mark) }
+        ensures call { FrameCall self.old (Told mark) out.old result self.new out.new }
+        ensures memory { IsOk result }
+    {
         if !self.give_closed(mark.t, out) {
             return Ok(false);
         }
@@ -155,15 +165,22 @@ impl Processor for FrameP {
         Ok(true)
     }
 
-    fn close_queue(&mut self, _port: Port, _queue: u32, _out: &mut Outbox) -> bool {
+    fn close_queue(&mut self, _port: Port, _queue: u32, _out: &mut Outbox) -> bool
+        ensures call { FrameCall self.old (Closed _port _queue) _out.old (Ok result) self.new _out.new }
+        ensures ends { result ≡ true }
+    {
         true
     }
 
-    fn finish(&mut self, out: &mut Outbox) -> Result<bool, NoMemory> {
+    fn finish(&mut self, out: &mut Outbox) -> Result<bool, NoMemory>
+        requires { FrameMayCall self.old Finish }
+        ensures call { FrameCall self.old Finish out.old result self.new out.new }
+        ensures memory { IsOk result }
+    {
         Ok(self.give_closed(i64::MAX, out))
     }
 
-    ghost use Rattle.jet_window.specs.FrameLaws.{frame_sound, frame_sound_amid, frame_closed, frame_closed_amid, frame_open, frame_bag};
+    ghost use Rattle.jet_window.specs.FrameLaws.{frame_sound, frame_sound_amid, frame_closed, frame_closed_amid, frame_open, frame_bag, frame_begins};
 
     ghost same_refl = { λ p. (refl, refl) };
 
@@ -171,23 +188,23 @@ impl Processor for FrameP {
 
     ghost takes_stays = { λ p q port queue h k. tt };
 
-    ghost begins = { λ p taken entry given h. h };
+    ghost begins = { λ p taken entry given h. frame_begins p.vertex p.policy.slide p.last p.held.entries taken entry given h };
 
-    ghost sound_law = { λ behind p taken given h k. frame_sound behind p.vertex p.policy.slide p.last p.held.entries taken given h k };
+    ghost sound_law = { λ behind p taken given h k. frame_sound behind p.vertex p.policy.slide p.last p.held.entries taken taken given h k };
 
     ghost sound_law_amid = { λ behind p taken entry given h k. frame_sound_amid behind p.vertex p.policy.slide p.last p.held.entries taken entry given h k };
 
-    ghost closed_law = { λ p taken given h k. frame_closed p.vertex p.policy.slide p.last p.held.entries taken given h k };
+    ghost closed_law = { λ p taken given h k. frame_closed p.vertex p.policy.slide p.last p.held.entries taken taken given h k };
 
     ghost closed_law_amid = { λ p taken entry given h k. frame_closed_amid p.vertex p.policy.slide p.last p.held.entries taken entry given h k };
 
-    ghost open_law = { λ p taken given h k. frame_open p.vertex p.policy.slide p.last p.held.entries taken given h };
+    ghost open_law = { λ p taken given h k. frame_open p.vertex p.policy.slide p.last p.held.entries taken taken given h };
 
-    ghost open_law_amid = { λ p taken entry given h k. frame_open p.vertex p.policy.slide p.last p.held.entries taken given h };
+    ghost open_law_amid = { λ p taken entry given h k. frame_open p.vertex p.policy.slide p.last p.held.entries (taken ++ entry ∷ []) taken given h };
 
-    ghost bag_law = { λ p taken given h. frame_bag p.vertex p.policy.slide p.last p.held.entries taken given h };
+    ghost bag_law = { λ p taken given h. frame_bag p.vertex p.policy.slide p.last p.held.entries taken taken given h };
 
-    ghost bag_law_amid = { λ p taken entry given h. frame_bag p.vertex p.policy.slide p.last p.held.entries taken given h };
+    ghost bag_law_amid = { λ p taken entry given h. frame_bag p.vertex p.policy.slide p.last p.held.entries (taken ++ entry ∷ []) taken given h };
 
     ghost marks_law = { λ p taken given h. h.marks };
 

@@ -25,7 +25,8 @@ pub use laws::{closed_rows_stay, rows_end, rows_follow};
 pub use ordered::OrderedRows;
 pub use plain::PlainWindow;
 pub use stages::{
-    frames_sum_kept, instances_give_rows, instances_sum_kept, one_row_each, ordered_are_rows,
+    few_frames, few_rows, frames_sum_kept, instances_give_rows, instances_sum_kept, one_row_each,
+    ordered_are_rows, whole_windows,
 };
 
 #[cfg(test)]

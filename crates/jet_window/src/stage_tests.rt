@@ -66,6 +66,7 @@ fn shown(item: &Item) -> Shown {
         Item::Row(row) => ('r', row.end, row.acc.count),
         Item::Late(late) => ('l', late.event.ts, 1),
         Item::Mark(mark) => ('m', mark.t, 0),
+        Item::Idle => ('i', 0, 0),
         Item::Done => ('d', 0, 0),
     }
 }

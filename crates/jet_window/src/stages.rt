@@ -1,6 +1,6 @@
 // What a job may rest on that splits a window into frame and combine instances: each law is the contract of a function
 // that does nothing.
-ghost use Rattle.jet_window.specs.StageLaws.{FramesSumKept, InstancesSumKept, InstancesGiveRows, OneRowEach, OrderedAreRows};
+ghost use Rattle.jet_window.specs.StageLaws.{FramesSumKept, InstancesSumKept, InstancesGiveRows, OneRowEach, OrderedAreRows, WholeWindows, FewRows, FewFrames};
 
 /// Once a frame vertex has taken the finish, the frames that it gave sum the events that it kept.
 pub fn frames_sum_kept()
@@ -12,7 +12,8 @@ pub fn instances_sum_kept()
     ensures { InstancesSumKept }
 {}
 
-/// Several combine instances, to which frames are dealt by key, together give the rows over the events of the frames.
+/// Several combine instances, to which frames are dealt by key, together give the rows over the events of the frames and
+/// over the frames that were there before, also where they stand at different marks.
 pub fn instances_give_rows()
     ensures { InstancesGiveRows }
 {}
@@ -25,4 +26,19 @@ pub fn one_row_each()
 /// The rows of several windows, together and in order, are the rows of these windows.
 pub fn ordered_are_rows()
     ensures { OrderedAreRows }
+{}
+
+/// A window is as many slides long as an event is in windows.
+pub fn whole_windows()
+    ensures { WholeWindows }
+{}
+
+/// There are at most as many rows for each frame as it is in windows.
+pub fn few_rows()
+    ensures { FewRows }
+{}
+
+/// A frame vertex gives at most one frame or late item for each event.
+pub fn few_frames()
+    ensures { FewFrames }
 {}

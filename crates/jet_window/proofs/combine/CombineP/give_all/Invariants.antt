@@ -1,4 +1,4 @@
-use Rattle.std.proofs.Common.{◌≡◌}
+use Rattle.std.proofs.Common.{◌≡◌, []}
 use Rattle.jet_items.specs.Ranges.{IsWithin, most_row_end}
 use Rattle.jet_window.specs.FrameTables.{IsKept}
 use Rattle.jet_window.specs.NextEnds.{gap}
@@ -13,6 +13,7 @@ invariant-loop-self l = record {
   room : l.out.room ≡ l.initial.out.room;
   range : IsWithin most_row_end l.self.end;
   kept : IsKept l.self.held.entries;
+  empty : l.initial.self.held.entries ≡ [] → l.self.held.entries ≡ [];
 }
 
 abbrev pub decreases-loop-self : goal.decreases-loop-self

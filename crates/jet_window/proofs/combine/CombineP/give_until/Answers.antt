@@ -1,35 +1,44 @@
-use Rattle.std.proofs.Common.{rules, arith, ◌≡◌, ◌<◌, ◌∙◌, [], ℤ, Option, Some, refl, sym, subst, ◌≤ℤ◌, ◌<ℤ◌, FitsSigned, to_z, of_z, to_z-of_z, w64}
+use Rattle.std.proofs.Common.{rules, arith, ◌≡◌, ◌<◌, ◌∙◌, [], ℤ, Option, Some, refl, sym, ap, subst, ◌≤ℤ◌, ◌<ℤ◌, FitsSigned, to_z, of_z, to_z-of_z, w64}
 use Rattle.std.proofs.lemmas.Int.{ints}
 use Rattle.jet_items.specs.Ranges.{IsWithin, most_row_end}
 use Rattle.jet_window.specs.declared.combine.CombineP.{CombineP}
 use Rattle.jet_window.specs.FrameTables.{IsKept}
-use Rattle.jet_window.specs.Combining.{Passes}
 use Rattle.jet_window.specs.NextEnds.{IsNextEnd, gap}
 use Rattle.jet_window.specs.CombineStands.{Gave}
 use Rattle.jet_window.proofs.Standing.{Gave-refl, Gave-trans}
 use Rattle.jet_window.specs.CombineView.{combine_of}
-use Rattle.jet_window.proofs.Giving.{put_step, forget_step, up_step, clear_next, passes_up, nearer}
+use Rattle.jet_window.specs.Combining.{Clear, Passes, OpenAbove}
+use Rattle.jet_window.proofs.Giving.{gave_put, gave_next, up_step, nearer, when_err, clear_next, clear_up, skips_clear, open_next, not_clear, passes_up}
 use Rattle.jet_window.proofs.combine.CombineP.give_until.Goals as goal
 
 pub returns-in_default-clause-gave : goal.returns-in_default-clause-gave
 returns-in_default-clause-gave c =
-    let gave2 : Gave (combine_of c.args.self.now) c.args.out.now.items (combine_of c.put_ready.new.self) c.put_ready.new.out.items =
-    Gave-trans (combine_of c.args.self.now) c.args.out.now.items (combine_of c.loop-self.self) c.loop-self.out.items (combine_of c.put_ready.new.self) c.put_ready.new.out.items c.loop-self.invariant.gave
-    (put_step c.loop-self.self c.put_ready.new.self c.loop-self.out.items c.put_ready.new.out.items c.put_ready.ensures.vertex c.put_ready.ensures.policy c.put_ready.ensures.passed c.put_ready.ensures.end c.put_ready.ensures.held c.put_ready.ensures.put) in
-    let gave3 : Gave (combine_of c.args.self.now) c.args.out.now.items (combine_of c.next_end.new.self) c.put_ready.new.out.items =
-    Gave-trans (combine_of c.args.self.now) c.args.out.now.items (combine_of c.put_ready.new.self) c.put_ready.new.out.items (combine_of c.next_end.new.self) c.put_ready.new.out.items gave2
-    (forget_step c.put_ready.new.self c.next_end.new.self c.put_ready.new.out.items c.next_end.ensures.vertex c.next_end.ensures.policy c.next_end.ensures.passed c.next_end.ensures.end c.next_end.ensures.ready c.next_end.ensures.forgets) in
-    gave3
+    gave_next c.args.self.now c.put_ready.new.self c.next_end.new.self c.args.out.now.items c.put_ready.new.out.items
+    (gave_put c.args.self.now c.loop-self.self c.put_ready.new.self c.args.out.now.items c.loop-self.out.items c.put_ready.new.out.items c.loop-self.invariant.gave c.put_ready.ensures.vertex c.put_ready.ensures.policy c.put_ready.ensures.passed c.put_ready.ensures.end c.put_ready.ensures.held c.put_ready.ensures.put)
+    c.next_end.ensures.vertex c.next_end.ensures.policy c.next_end.ensures.passed c.next_end.ensures.end c.next_end.ensures.ready c.next_end.ensures.forgets
 
 pub returns-then-t-end-clause-gave : goal.returns-then-t-end-clause-gave
 returns-then-t-end-clause-gave c =
-    let gave2 : Gave (combine_of c.args.self.now) c.args.out.now.items (combine_of c.put_ready.new.self) c.put_ready.new.out.items =
-    Gave-trans (combine_of c.args.self.now) c.args.out.now.items (combine_of c.loop-self.self) c.loop-self.out.items (combine_of c.put_ready.new.self) c.put_ready.new.out.items c.loop-self.invariant.gave
-    (put_step c.loop-self.self c.put_ready.new.self c.loop-self.out.items c.put_ready.new.out.items c.put_ready.ensures.vertex c.put_ready.ensures.policy c.put_ready.ensures.passed c.put_ready.ensures.end c.put_ready.ensures.held c.put_ready.ensures.put) in
-    let gave3 : Gave (combine_of c.args.self.now) c.args.out.now.items (combine_of c.next_end.new.self) c.put_ready.new.out.items =
-    Gave-trans (combine_of c.args.self.now) c.args.out.now.items (combine_of c.put_ready.new.self) c.put_ready.new.out.items (combine_of c.next_end.new.self) c.put_ready.new.out.items gave2
-    (forget_step c.put_ready.new.self c.next_end.new.self c.put_ready.new.out.items c.next_end.ensures.vertex c.next_end.ensures.policy c.next_end.ensures.passed c.next_end.ensures.end c.next_end.ensures.ready c.next_end.ensures.forgets) in
-    gave3
+    gave_next c.args.self.now c.put_ready.new.self c.next_end.new.self c.args.out.now.items c.put_ready.new.out.items
+    (gave_put c.args.self.now c.loop-self.self c.put_ready.new.self c.args.out.now.items c.loop-self.out.items c.put_ready.new.out.items c.loop-self.invariant.gave c.put_ready.ensures.vertex c.put_ready.ensures.policy c.put_ready.ensures.passed c.put_ready.ensures.end c.put_ready.ensures.held c.put_ready.ensures.put)
+    c.next_end.ensures.vertex c.next_end.ensures.policy c.next_end.ensures.passed c.next_end.ensures.end c.next_end.ensures.ready c.next_end.ensures.forgets
+
+pub returns-in_default-clause-above : goal.returns-in_default-clause-above
+returns-in_default-clause-above c = λ ok. subst (OpenAbove c.next_end.new.self.policy.size c.next_end.new.self.policy.slide c.args.t) (sym c.in_default.ensures.none) tt
+
+pub returns-in_default-clause-bound : goal.returns-in_default-clause-bound
+returns-in_default-clause-bound c =
+    let fits_t : FitsSigned w64 c.args.t = c.ranges.t in
+    let t_is : to_z w64 (of_z w64 c.args.t) ≡ c.args.t = omega (arith, ints) in
+    let bound = subst (λ (t : ℤ). Passes c.args.self.now.passed t → Passes c.loop-self.self.passed t) t_is c.loop-self.invariant.bound in
+    rw (c.next_end.ensures.passed, c.put_ready.ensures.passed) bound
+
+pub returns-clause-bound : goal.returns-clause-bound
+returns-clause-bound c =
+    let fits_t : FitsSigned w64 c.args.t = c.ranges.t in
+    let t_is : to_z w64 (of_z w64 c.args.t) ≡ c.args.t = omega (arith, ints) in
+    let bound = subst (λ (t : ℤ). Passes c.args.self.now.passed t → Passes c.loop-self.self.passed t) t_is c.loop-self.invariant.bound in
+    rw c.put_ready.ensures.passed bound
 
 pub returns-then-t-end-clause-clear : goal.returns-then-t-end-clause-clear
 returns-then-t-end-clause-clear c =
@@ -37,38 +46,42 @@ returns-then-t-end-clause-clear c =
     let next : IsNextEnd c.next_end.new.self.policy.size c.next_end.new.self.policy.slide c.next_end.new.self.passed c.next_end.new.self.held.entries c.in-Some.end = rw (c.next_end.ensures.policy, c.next_end.ensures.passed) c.in-Some.ensures.some in
     let fits_t : FitsSigned w64 c.args.t = c.ranges.t in
     let lt : c.args.t <ℤ c.in-Some.end = omega (arith, ints) in
-    λ ok. clear_next c.next_end.new.self.policy.size c.next_end.new.self.policy.slide c.next_end.new.self.passed c.next_end.new.self.held.entries c.in-Some.end c.args.t next lt
+    λ ok. skips_clear c.next_end.new.self.policy.size c.next_end.new.self.policy.slide c.next_end.new.self.passed c.next_end.new.self.held.entries c.in-Some.end c.args.t next lt
+
+pub returns-then-t-end-clause-above : goal.returns-then-t-end-clause-above
+returns-then-t-end-clause-above c =
+    let fits : FitsSigned w64 c.in-Some.end = search rules in
+    let next : IsNextEnd c.next_end.new.self.policy.size c.next_end.new.self.policy.slide c.next_end.new.self.passed c.next_end.new.self.held.entries c.in-Some.end = rw (c.next_end.ensures.policy, c.next_end.ensures.passed) c.in-Some.ensures.some in
+    let fits_t : FitsSigned w64 c.args.t = c.ranges.t in
+    let lt : c.args.t <ℤ c.in-Some.end = omega (arith, ints) in
+    λ ok. open_next c.next_end.new.self.policy.size c.next_end.new.self.policy.slide c.in-Some.end c.args.t c.next_end.new.self.held.entries next.reaches lt
 
 pub loop-self-preserved : goal.loop-self-preserved
 loop-self-preserved c =
-    let gave2 : Gave (combine_of c.args.self.now) c.args.out.now.items (combine_of c.put_ready.new.self) c.put_ready.new.out.items =
-    Gave-trans (combine_of c.args.self.now) c.args.out.now.items (combine_of c.loop-self.self) c.loop-self.out.items (combine_of c.put_ready.new.self) c.put_ready.new.out.items c.loop-self.invariant.gave
-    (put_step c.loop-self.self c.put_ready.new.self c.loop-self.out.items c.put_ready.new.out.items c.put_ready.ensures.vertex c.put_ready.ensures.policy c.put_ready.ensures.passed c.put_ready.ensures.end c.put_ready.ensures.held c.put_ready.ensures.put) in
-    let gave3 : Gave (combine_of c.args.self.now) c.args.out.now.items (combine_of c.next_end.new.self) c.put_ready.new.out.items =
-    Gave-trans (combine_of c.args.self.now) c.args.out.now.items (combine_of c.put_ready.new.self) c.put_ready.new.out.items (combine_of c.next_end.new.self) c.put_ready.new.out.items gave2
-    (forget_step c.put_ready.new.self c.next_end.new.self c.put_ready.new.out.items c.next_end.ensures.vertex c.next_end.ensures.policy c.next_end.ensures.passed c.next_end.ensures.end c.next_end.ensures.ready c.next_end.ensures.forgets) in
     let fits : FitsSigned w64 c.in-Some.end = search rules in
     let next : IsNextEnd c.next_end.new.self.policy.size c.next_end.new.self.policy.slide c.next_end.new.self.passed c.next_end.new.self.held.entries c.in-Some.end = rw (c.next_end.ensures.policy, c.next_end.ensures.passed) c.in-Some.ensures.some in
     let passed = simp to_z-of_z at c.in_ok-take_up.ensures.passed in
     let end = simp to_z-of_z at c.in_ok-take_up.ensures.end in
     let rows = simp to_z-of_z at c.in_ok-take_up.ensures.rows in
     let none : c.next_end.new.self.ready.entries ≡ [] = rw c.next_end.ensures.ready (c.put_ready.ensures.all c.loop-self-test.true) in
-    let gave4 : Gave (combine_of c.args.self.now) c.args.out.now.items (combine_of c.take_up.new.self) c.put_ready.new.out.items =
-    Gave-trans (combine_of c.args.self.now) c.args.out.now.items (combine_of c.next_end.new.self) c.put_ready.new.out.items (combine_of c.take_up.new.self) c.put_ready.new.out.items gave3
-    (up_step c.next_end.new.self c.take_up.new.self c.put_ready.new.out.items c.in-Some.end c.in_ok-take_up.ensures.vertex c.in_ok-take_up.ensures.policy c.in_ok-take_up.ensures.held passed end none next rows) in
-    let kept2 : IsKept c.put_ready.new.self.held.entries = rw c.put_ready.ensures.held c.loop-self.invariant.kept in
-    let kept3 : IsKept c.next_end.new.self.held.entries = c.next_end.ensures.forgets.kept kept2 in
-    let range : IsWithin most_row_end c.take_up.new.self.end = subst (λ (z : ℤ). IsWithin most_row_end z) (sym end) next.range in
-    let room : c.put_ready.new.out.room ≡ c.args.out.now.room = c.put_ready.ensures.room ∙ c.loop-self.invariant.room in
+    let before : Gave (combine_of c.args.self.now) c.args.out.now.items (combine_of c.next_end.new.self) c.put_ready.new.out.items =
+    gave_next c.args.self.now c.put_ready.new.self c.next_end.new.self c.args.out.now.items c.put_ready.new.out.items
+    (gave_put c.args.self.now c.loop-self.self c.put_ready.new.self c.args.out.now.items c.loop-self.out.items c.put_ready.new.out.items c.loop-self.invariant.gave c.put_ready.ensures.vertex c.put_ready.ensures.policy c.put_ready.ensures.passed c.put_ready.ensures.end c.put_ready.ensures.held c.put_ready.ensures.put)
+    c.next_end.ensures.vertex c.next_end.ensures.policy c.next_end.ensures.passed c.next_end.ensures.end c.next_end.ensures.ready c.next_end.ensures.forgets in
+    let kept : IsKept c.put_ready.new.self.held.entries = rw c.put_ready.ensures.held c.loop-self.invariant.kept in
     let fits_t : FitsSigned w64 c.args.t = c.ranges.t in
     let le : c.in-Some.end ≤ℤ to_z w64 (of_z w64 c.args.t) = omega (arith, ints) in
+    let clear_here : Clear c.args.self.now.policy.size c.args.self.now.policy.slide c.args.self.now.passed c.args.self.now.held.entries (to_z w64 (of_z w64 c.args.t)) → Clear c.next_end.new.self.policy.size c.next_end.new.self.policy.slide c.next_end.new.self.passed c.next_end.new.self.held.entries (to_z w64 (of_z w64 c.args.t)) =
+    λ clear. clear_next c.loop-self.self c.put_ready.new.self c.next_end.new.self _ c.put_ready.ensures.policy c.put_ready.ensures.passed c.put_ready.ensures.held c.next_end.ensures.policy c.next_end.ensures.passed c.next_end.ensures.forgets (c.loop-self.invariant.clear clear) in
     record {
       policy = c.in_ok-take_up.ensures.policy ∙ (c.next_end.ensures.policy ∙ (c.put_ready.ensures.policy ∙ c.loop-self.invariant.policy));
-      gave = gave4;
-      room = room;
-      range = range;
-      kept = rw c.in_ok-take_up.ensures.held kept3;
+      gave = Gave-trans (combine_of c.args.self.now) c.args.out.now.items (combine_of c.next_end.new.self) c.put_ready.new.out.items (combine_of c.take_up.new.self) c.put_ready.new.out.items before
+          (up_step c.next_end.new.self c.take_up.new.self c.put_ready.new.out.items c.in-Some.end c.in_ok-take_up.ensures.vertex c.in_ok-take_up.ensures.policy c.in_ok-take_up.ensures.held passed end none next rows);
+      room = c.put_ready.ensures.room ∙ c.loop-self.invariant.room;
+      range = subst (λ (z : ℤ). IsWithin most_row_end z) (sym end) next.range;
+      kept = rw c.in_ok-take_up.ensures.held (c.next_end.ensures.forgets.kept kept);
       bound = λ b. subst (λ (o : Option ℤ). Passes o (to_z w64 (of_z w64 c.args.t))) (sym passed) (passes_up c.in-Some.end (to_z w64 (of_z w64 c.args.t)) le);
+      clear = λ clear. clear_up c.next_end.new.self c.take_up.new.self c.in-Some.end _ c.in_ok-take_up.ensures.policy c.in_ok-take_up.ensures.held passed next.later (clear_here clear);
     }
 
 pub loop-self-smaller : goal.loop-self-smaller
@@ -82,20 +95,27 @@ loop-self-smaller c =
 
 pub returns-in_err-take_up-clause-gave : goal.returns-in_err-take_up-clause-gave
 returns-in_err-take_up-clause-gave c =
-    let gave2 : Gave (combine_of c.args.self.now) c.args.out.now.items (combine_of c.put_ready.new.self) c.put_ready.new.out.items =
-    Gave-trans (combine_of c.args.self.now) c.args.out.now.items (combine_of c.loop-self.self) c.loop-self.out.items (combine_of c.put_ready.new.self) c.put_ready.new.out.items c.loop-self.invariant.gave
-    (put_step c.loop-self.self c.put_ready.new.self c.loop-self.out.items c.put_ready.new.out.items c.put_ready.ensures.vertex c.put_ready.ensures.policy c.put_ready.ensures.passed c.put_ready.ensures.end c.put_ready.ensures.held c.put_ready.ensures.put) in
-    let gave3 : Gave (combine_of c.args.self.now) c.args.out.now.items (combine_of c.next_end.new.self) c.put_ready.new.out.items =
-    Gave-trans (combine_of c.args.self.now) c.args.out.now.items (combine_of c.put_ready.new.self) c.put_ready.new.out.items (combine_of c.next_end.new.self) c.put_ready.new.out.items gave2
-    (forget_step c.put_ready.new.self c.next_end.new.self c.put_ready.new.out.items c.next_end.ensures.vertex c.next_end.ensures.policy c.next_end.ensures.passed c.next_end.ensures.end c.next_end.ensures.ready c.next_end.ensures.forgets) in
-    subst (λ (z : CombineP). Gave (combine_of c.args.self.now) c.args.out.now.items (combine_of z) c.put_ready.new.out.items) (sym c.in_err-take_up.ensures.same) gave3
+    subst (λ (z : CombineP). Gave (combine_of c.args.self.now) c.args.out.now.items (combine_of z) c.put_ready.new.out.items) (sym c.in_err-take_up.ensures.same)
+    (gave_next c.args.self.now c.put_ready.new.self c.next_end.new.self c.args.out.now.items c.put_ready.new.out.items
+    (gave_put c.args.self.now c.loop-self.self c.put_ready.new.self c.args.out.now.items c.loop-self.out.items c.put_ready.new.out.items c.loop-self.invariant.gave c.put_ready.ensures.vertex c.put_ready.ensures.policy c.put_ready.ensures.passed c.put_ready.ensures.end c.put_ready.ensures.held c.put_ready.ensures.put)
+    c.next_end.ensures.vertex c.next_end.ensures.policy c.next_end.ensures.passed c.next_end.ensures.end c.next_end.ensures.ready c.next_end.ensures.forgets)
+
+pub returns-in_err-take_up-clause-wants : goal.returns-in_err-take_up-clause-wants
+returns-in_err-take_up-clause-wants c =
+    let fits : FitsSigned w64 c.in-Some.end = search rules in
+    let next : IsNextEnd c.next_end.new.self.policy.size c.next_end.new.self.policy.slide c.next_end.new.self.passed c.next_end.new.self.held.entries c.in-Some.end = rw (c.next_end.ensures.policy, c.next_end.ensures.passed) c.in-Some.ensures.some in
+    let fits_t : FitsSigned w64 c.args.t = c.ranges.t in
+    let le : c.in-Some.end ≤ℤ to_z w64 (of_z w64 c.args.t) = omega (arith, ints) in
+    let clear_here : Clear c.args.self.now.policy.size c.args.self.now.policy.slide c.args.self.now.passed c.args.self.now.held.entries (to_z w64 (of_z w64 c.args.t)) → Clear c.next_end.new.self.policy.size c.next_end.new.self.policy.slide c.next_end.new.self.passed c.next_end.new.self.held.entries (to_z w64 (of_z w64 c.args.t)) =
+    λ clear. clear_next c.loop-self.self c.put_ready.new.self c.next_end.new.self _ c.put_ready.ensures.policy c.put_ready.ensures.passed c.put_ready.ensures.held c.next_end.ensures.policy c.next_end.ensures.passed c.next_end.ensures.forgets (c.loop-self.invariant.clear clear) in
+    let t_is : c.args.t ≡ to_z w64 (of_z w64 c.args.t) = omega (arith, ints) in
+    when_err c.from_residual.result (λ clear. not_clear c.next_end.new.self.policy.size c.next_end.new.self.policy.slide c.next_end.new.self.passed c.next_end.new.self.held.entries c.in-Some.end _ next le
+    (clear_here (subst (λ (t : ℤ). Clear c.args.self.now.policy.size c.args.self.now.policy.slide c.args.self.now.passed c.args.self.now.held.entries t) t_is clear)))
 
 pub returns-clause-gave : goal.returns-clause-gave
 returns-clause-gave c =
-    let gave2 : Gave (combine_of c.args.self.now) c.args.out.now.items (combine_of c.put_ready.new.self) c.put_ready.new.out.items =
-    Gave-trans (combine_of c.args.self.now) c.args.out.now.items (combine_of c.loop-self.self) c.loop-self.out.items (combine_of c.put_ready.new.self) c.put_ready.new.out.items c.loop-self.invariant.gave
-    (put_step c.loop-self.self c.put_ready.new.self c.loop-self.out.items c.put_ready.new.out.items c.put_ready.ensures.vertex c.put_ready.ensures.policy c.put_ready.ensures.passed c.put_ready.ensures.end c.put_ready.ensures.held c.put_ready.ensures.put) in
-    gave2
+    gave_put c.args.self.now c.loop-self.self c.put_ready.new.self c.args.out.now.items c.loop-self.out.items c.put_ready.new.out.items c.loop-self.invariant.gave
+    c.put_ready.ensures.vertex c.put_ready.ensures.policy c.put_ready.ensures.passed c.put_ready.ensures.end c.put_ready.ensures.held c.put_ready.ensures.put
 
 pub loop-self-init : goal.loop-self-init
 loop-self-init c = record {
@@ -105,4 +125,5 @@ loop-self-init c = record {
   range = c.requires.range;
   kept = c.requires.kept;
   bound = λ h. h;
+  clear = λ h. h;
 }

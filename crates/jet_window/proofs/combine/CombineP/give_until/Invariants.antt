@@ -1,7 +1,7 @@
 use Rattle.std.proofs.Common.{◌≡◌}
 use Rattle.jet_items.specs.Ranges.{IsWithin, most_row_end}
 use Rattle.jet_window.specs.FrameTables.{IsKept}
-use Rattle.jet_window.specs.Combining.{Passes}
+use Rattle.jet_window.specs.Combining.{Clear, Passes}
 use Rattle.jet_window.specs.NextEnds.{gap}
 use Rattle.jet_window.specs.CombineStands.{Gave}
 use Rattle.jet_window.specs.CombineView.{combine_of}
@@ -15,6 +15,7 @@ invariant-loop-self l = record {
   range : IsWithin most_row_end l.self.end;
   kept : IsKept l.self.held.entries;
   bound : Passes l.initial.self.passed l.t → Passes l.self.passed l.t;
+  clear : Clear l.initial.self.policy.size l.initial.self.policy.slide l.initial.self.passed l.initial.self.held.entries l.t → Clear l.self.policy.size l.self.policy.slide l.self.passed l.self.held.entries l.t;
 }
 
 abbrev pub decreases-loop-self : goal.decreases-loop-self

@@ -36,7 +36,7 @@ returns-then-next-end-clause-some c =
     let above : IsEndAbove c.loop-at.self.policy.slide c.loop-at.self.passed c.in-Some.at.now.0 c.end_above-next.result = subst (λ (z : ℤ). IsEndAbove c.loop-at.self.policy.slide c.loop-at.self.passed z c.end_above-next.result) end c.end_above-next.ensures in
     rw (← c.loop-at.invariant.policy, ← c.loop-at.invariant.passed)
     (subst (λ (z : ℤ). IsNextEnd c.loop-at.self.policy.size c.loop-at.self.policy.slide c.loop-at.self.passed c.loop-at.self.held.entries z) next
-    (next_end_is c.loop-at.self.policy.size c.loop-at.self.policy.slide c.loop-at.self.passed c.loop-at.self.held.entries (c.in-Some.at.now, c.in-Some.field-0-1.now) c.end_above-next.result c.in-Some.ensures.first kept above lt most))
+    (next_end_is c.loop-at.self.policy.size c.loop-at.self.policy.slide c.loop-at.self.passed c.loop-at.self.held.entries (c.in-Some.at.now, c.in-Some.field-0-1.now) c.end_above-next.result c.in-Some.ensures.first kept above lt policy))
 
 pub loop-at-preserved : goal.loop-at-preserved
 loop-at-preserved c =

@@ -6,12 +6,14 @@ use Rattle.jet_boxes.specs.Entry.{Given}
 use Rattle.jet_boxes.specs.Calls.{Call}
 use Rattle.jet_boxes.specs.Held.{Held}
 use Rattle.jet_window.specs.declared.combine.CombineP.{CombineP}
-use Rattle.jet_window.proofs.Calling.{Stands, Amid, Alike}
+use Rattle.jet_window.specs.CombineCalls.{Stands, Amid, Alike}
+use Rattle.jet_window.specs.CombineStands.{IsFrame}
+use Rattle.jet_window.proofs.Giving.{when_err}
 use Rattle.jet_window.proofs.Calling.{frame_call, pass_call, not_frame, nothing_call, err_not_ok, no_yes}
 use Rattle.jet_window.proofs.combine.CombinePProcessor.accept.Goals as goal
 
-pub returns-in-Frame : goal.returns-in-Frame
-returns-in-Frame c =
+pub returns-in-Frame-clause-call : goal.returns-in-Frame-clause-call
+returns-in-Frame-clause-call c =
     let fits : FitsSigned w64 c.frame.inside.end = search rules in
     let f : FrameValue = record { vertex = c.frame.inside.vertex; end = c.frame.inside.end; key = c.frame.inside.key; acc = c.frame.inside.acc } in
     let is : item.Frame f ≡ c.args.item.now = ap item.Frame c.frame.view_is ∙ sym c.in-Frame.is in
@@ -20,17 +22,20 @@ returns-in-Frame c =
     subst (λ (x : Item). Call Stands Amid Alike false c.args.self.now (Given c.args._port c.args._queue x) c.args.out.now (Ok true) s c.args.out.now) is
     (frame_call c.args.self.now s c.args._port c.args._queue f c.args.out.now c.frame.invariant refl refl refl refl refl held)
 
-pub returns-in-Ok : goal.returns-in-Ok
-returns-in-Ok c =
+pub returns-in-Ok-clause-call : goal.returns-in-Ok-clause-call
+returns-in-Ok-clause-call c =
     pass_call c.args.self.now c.args._port c.args._queue c.args.item.now c.args.out.now c.offer.new.self (not_frame c.args.item.now c.in_default.not-Frame) c.requires.3.2
     (ap (λ (b : Held). b.room) c.in-Ok.ensures.put) (ap (λ (b : Held). b.items) c.in-Ok.ensures.put)
 
-pub returns-in_err-keep : goal.returns-in_err-keep
-returns-in_err-keep c =
+pub returns-in_err-keep-clause-call : goal.returns-in_err-keep-clause-call
+returns-in_err-keep-clause-call c =
     nothing_call c.args.self.now _ c.args._port c.args._queue c.args.item.now c.args.out.now c.from_residual.result (err_not_ok c.from_residual.result true c.from_residual.ensures.0)
     (λ e. absurd (err_not_ok c.from_residual.result false c.from_residual.ensures.0 e)) refl refl refl refl c.in_err-keep.ensures.err refl
 
-pub returns-in-Err : goal.returns-in-Err
-returns-in-Err c =
+pub returns-in-Err-clause-call : goal.returns-in-Err-clause-call
+returns-in-Err-clause-call c =
     subst (λ (z : Held). Call Stands Amid Alike false c.args.self.now (Given c.args._port c.args._queue c.args.item.now) c.args.out.now (Ok false) c.args.self.now z) (sym c.in-Err.ensures.kept)
     (nothing_call c.args.self.now c.args.self.now c.args._port c.args._queue c.args.item.now c.args.out.now (Ok false) no_yes (λ e. c.in-Err.ensures.full) refl refl refl refl refl refl)
+
+pub returns-in_err-keep-clause-memory : goal.returns-in_err-keep-clause-memory
+returns-in_err-keep-clause-memory c = when_err c.from_residual.result (subst IsFrame (sym c.in-Frame.is) tt)

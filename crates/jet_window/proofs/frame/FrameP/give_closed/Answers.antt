@@ -1,4 +1,4 @@
-use Rattle.std.proofs.Common.{rules, arith, ◌≡◌, ◌∷◌, ◌++◌, [], ℕ, ◌∙◌, ap, subst, ◌<ℤ◌, FitsSigned, to_z-of_z, w64}
+use Rattle.std.proofs.Common.{rules, arith, ◌≡◌, ◌∷◌, ◌++◌, [], ℕ, ◌∙◌, ap, subst, ◌<ℤ◌, ◌≤ℤ◌, FitsSigned, to_z, of_z, to_z-of_z, w64}
 use Rattle.std.proofs.lemmas.Int.{ints}
 use Rattle.jet_boxes.specs.Held.{Held}
 use Rattle.jet_items.specs.Ranges.{IsWithin, most_frame_end}
@@ -29,6 +29,8 @@ pub loop-at-preserved : goal.loop-at-preserved
 loop-at-preserved c =
     let fits_at : FitsSigned w64 c.in-Some.at.now.0 = search rules in
     let f : Place × AccValue = (c.in-Some.at.now, c.in-Some.acc.now) in
+    let fits_t : FitsSigned w64 c.args.t = c.ranges.t in
+    let le : c.in-Some.at.now.0 ≤ℤ to_z w64 (of_z w64 c.args.t) = omega (arith, ints) in
     let is : c.loop-at.self.held.entries ≡ f ∷ c.pop_first.new.self.entries = popped c.loop-at.self.held.entries c.pop_first.new.self.entries c.pop_first.result f c.in-Some.ensures.first c.pop_first.ensures.variant.1 c.pop_first.ensures.removal in
     let kept : IsKept (f ∷ c.pop_first.new.self.entries) = subst IsKept is c.loop-at.invariant.kept in
     let offered = simp to_z-of_z at c.in_default-offer.ensures.put in
@@ -40,5 +42,5 @@ loop-at-preserved c =
       last = c.loop-at.invariant.last;
       room = ap (λ (b : Held). b.room) offered ∙ c.loop-at.invariant.room;
       kept = record { ordered = kept.ordered.1; ranges = kept.ranges.1 };
-      moved = Moved-more c.args.self.now.vertex c.args.self.now.held.entries c.args.out.now.items c.loop-at.self.held.entries c.loop-at.out.items f c.pop_first.new.self.entries c.offer.new.self.items c.loop-at.invariant.moved is put_old;
+      moved = Moved-more c.args.self.now.vertex _ c.args.self.now.held.entries c.args.out.now.items c.loop-at.self.held.entries c.loop-at.out.items f c.pop_first.new.self.entries c.offer.new.self.items le c.loop-at.invariant.moved is put_old;
     }

@@ -10,7 +10,7 @@ invariant-loop-at l = record {
   last : l.self.last ≡ l.initial.self.last;
   room : l.out.room ≡ l.initial.out.room;
   kept : IsKept l.self.held.entries;
-  moved : Moved l.initial.self.vertex l.initial.self.held.entries l.initial.out.items l.self.held.entries l.out.items;
+  moved : Moved l.initial.self.vertex l.t l.initial.self.held.entries l.initial.out.items l.self.held.entries l.out.items;
 }
 
 abbrev pub decreases-loop-at : goal.decreases-loop-at

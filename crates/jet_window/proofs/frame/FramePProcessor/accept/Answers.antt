@@ -1,4 +1,4 @@
-use Rattle.std.proofs.Common.{rules, arith, get_or, pos, ◌≡◌, true, false, ℤ, sym, ◌∙◌, ap, subst, refl, Ok, FitsSigned, to_z-of_z, w64}
+use Rattle.std.proofs.Common.{rules, arith, get_or, slice_index_or, pos, ◌≡◌, true, false, ℤ, sym, ◌∙◌, ap, subst, refl, Ok, FitsSigned, to_z-of_z, w64}
 use Rattle.std.proofs.lemmas.Int.{ints}
 use Rattle.jet_boxes.specs.Calls.{Call}
 use Rattle.jet_boxes.specs.Entry.{Given}
@@ -12,14 +12,23 @@ use Rattle.jet_items.specs.Ranges.{IsWithin, most_time, most_frame_end}
 use Rattle.jet_items.proofs.GridLemmas.{rem_bounds}
 use Rattle.jet_window.specs.FrameTables.{joined_in}
 use Rattle.jet_window.specs.declared.frame.FrameP.{FrameP}
-use Rattle.jet_window.proofs.FrameCalls.{Stands, Amid, Alike, pass_call, late_call, kept_call, err_call, not_event}
+use Rattle.jet_window.specs.FrameCalls.{Stands, Amid, Alike}
+use Rattle.jet_window.proofs.FrameCalls.{pass_call, late_call, kept_call, err_call, not_event, first_within}
 use Rattle.jet_window.proofs.frame.FramePProcessor.accept.Goals as goal
 
-pub returns-in_default : goal.returns-in_default
-returns-in_default c = pass_call c.args.self.now c.args._port c.args._queue c.args.item.now c.args.out.now c.put.new.out c.put.result (not_event c.args.item.now c.in_default.not-Event) c.requires.3.2 c.put.ensures.yes c.put.ensures.none c.put.ensures.full
+pub returns-in_default-clause-call : goal.returns-in_default-clause-call
+returns-in_default-clause-call c = pass_call c.args.self.now c.args._port c.args._queue c.args.item.now c.args.out.now c.put.new.out c.put.result (not_event c.args.item.now c.in_default.not-Event) c.requires.3.2 c.put.ensures.yes c.put.ensures.none c.put.ensures.full
 
-pub returns-then-late : goal.returns-then-late
-returns-then-late c =
+pub one-requires : goal.one-requires
+one-requires c =
+    let within : IsWithin most_time (slice_index_or c.event.inside.v 0 (pos 0)) = first_within c.event.inside.v c.event.invariant.1 in
+    let fits : FitsSigned w64 (slice_index_or c.event.inside.v 0 (pos 0)) = search rules in
+    let a = within.0 in
+    let b = within.1 in
+    (omega (arith, ints), omega (arith, ints))
+
+pub returns-then-late-clause-call : goal.returns-then-late-clause-call
+returns-then-late-clause-call c =
     let fits : FitsSigned w64 c.event.inside.ts = search rules in
     let tested = simp to_z-of_z at c.late.ensures in
     let e : EventValue = record { part = c.event.inside.part; line = c.event.inside.line; ts = c.event.inside.ts; key = c.event.inside.key; v = c.event.inside.v } in
@@ -27,8 +36,8 @@ returns-then-late c =
     subst (λ (x : Item). Call Stands Amid Alike false c.args.self.now (Given c.args._port c.args._queue x) c.args.out.now (Ok c.put-then-late.result) c.args.self.now c.put-then-late.new.out) is
     (late_call c.args.self.now c.args._port c.args._queue e c.args.out.now c.put-then-late.new.out c.put-then-late.result c.frame_end-end.ensures.policy.slide_low (sym tested ∙ c.if-late.true) c.put-then-late.ensures.yes c.put-then-late.ensures.none c.put-then-late.ensures.full)
 
-pub returns : goal.returns
-returns c =
+pub returns-clause-call : goal.returns-clause-call
+returns-clause-call c =
     let fits : FitsSigned w64 c.event.inside.ts = search rules in
     let fits_end : FitsSigned w64 c.frame_end-end.result = record { sfits = c.frame_end-end.type_inv } in
     let tested = simp to_z-of_z at c.late.ensures in
@@ -50,5 +59,5 @@ returns c =
     subst (λ (x : Item). Call Stands Amid Alike false c.args.self.now (Given c.args._port c.args._queue x) c.args.out.now (Ok true) s c.args.out.now) is
     (kept_call c.args.self.now s c.args._port c.args._queue e c.args.out.now c.frame_end-end.ensures.policy.slide_low (sym tested ∙ c.if-late.false) range refl refl refl held)
 
-pub returns-in_err-keep : goal.returns-in_err-keep
-returns-in_err-keep c = err_call c.args.self.now _ (Given c.args._port c.args._queue c.args.item.now) c.args.out.now c.from_residual.result c.from_residual.ensures.0 refl refl refl c.in_err-keep.ensures.err
+pub returns-in_err-keep-clause-call : goal.returns-in_err-keep-clause-call
+returns-in_err-keep-clause-call c = err_call c.args.self.now _ (Given c.args._port c.args._queue c.args.item.now) c.args.out.now c.from_residual.result c.from_residual.ensures.0 refl refl refl c.in_err-keep.ensures.err
