@@ -7,7 +7,7 @@
 
 ghost use Rattle.std.specs.Prelude.{◌≡◌};
 
-use jet_lines::{Cut, Lines, read_line};
+use jet_lines::{Cut, Lines, read_event};
 use std::alloc::Global;
 use std::io;
 use std::time::{Clock, Instant};
@@ -93,7 +93,7 @@ fn take_events(alloc: Global, lines: &mut Lines, events: &mut u32)
     'cuts: loop {
         match lines.next() {
             Cut::Line(number) => {
-                if let Ok(Some(_)) = read_line(alloc, lines.line(), 0, number) {
+                if let Ok(Some(_)) = read_event(alloc, lines.line(), 0, number) {
                     *events = events.saturating_add(1);
                 }
             }

@@ -1,9 +1,11 @@
 pub mod CsvLemmas
 pub mod CutLemmas
+pub mod EntryLemmas
 pub mod Examples
 pub mod FileLemmas
 pub mod FormLemmas
 pub mod GrammarLemmas
+pub mod PlaceLemmas
 pub mod SettledLemmas
 pub mod SplitLemmas
 pub mod TestLemmas

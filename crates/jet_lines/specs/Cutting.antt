@@ -33,7 +33,7 @@ IsOpen rest = NoFeed rest (length rest) × (length (strip_carriage_return rest) 
 
 -- what the front of the bytes that are left is
 abbrev pub IsFront : List ℕ → Bool → Front → Type 0
-IsFront rest ended (front.Line len taken) = (len ≤ taken) × (taken ≤ length rest) × (len ≤ 512) × BeginsWith ended rest (take len rest) (drop taken rest)
+IsFront rest ended (front.Line len taken) = (len ≤ taken) × (taken ≤ len + 2) × (taken ≤ length rest) × (len ≤ 512) × BeginsWith ended rest (take len rest) (drop taken rest)
 IsFront rest ended front.More = (ended ≡ false) × IsOpen rest
 IsFront rest ended front.Long = HasLongLine ended rest
 IsFront rest ended front.End = (ended ≡ true) × (rest ≡ [])

@@ -6,6 +6,7 @@ use Rattle.jet_lines.specs.Feeds.{NoFeed}
 pub record IsHeld (items : List ℕ) (from to at clear number most : ℕ) : Type 0 where
   pub from_to : from ≤ to
   pub to_at : to ≤ at
+  pub end_at : at ≤ to + 2
   pub within : at + clear ≤ length items
   pub no_feed : NoFeed (drop at items) clear
   pub not_many : number ≤ most

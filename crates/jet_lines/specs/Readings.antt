@@ -1,5 +1,5 @@
 -- What a line holds, or its first fault.
-use Rattle.std.specs.Prelude.{◌≡◌, ⊤, ℕ, nat_lt, nat_le, ◌&&◌, not, ℤ, pos, List, [], ◌∷◌, length, position, slice_get, Option, Some, None, Result, Ok, Err, if◌then◌else◌}
+use Rattle.std.specs.Prelude.{◌≡◌, ⊤, ℕ, Bool, bytes_eq, codes, nat_lt, nat_le, ◌&&◌, not, ℤ, pos, List, [], ◌∷◌, length, position, slice_get, Option, Some, None, Result, Ok, Err, if◌then◌else◌}
 use Rattle.jet_items.specs.KeyFaults.{key_at}
 use Rattle.jet_items.specs.Values.{EventValue, SideValue}
 use Rattle.jet_items.specs.declared.key.KeyFault.{KeyFault}
@@ -8,6 +8,8 @@ use Rattle.jet_items.specs.declared.no_memory.Refused.TheVariants as refused
 use Rattle.jet_lines.specs.Grammar.{is_line_byte}
 use Rattle.jet_lines.specs.Numbers.{number_at}
 use Rattle.jet_lines.specs.Scan.{fields_of}
+use Rattle.jet_lines.specs.declared.entry.Entry.{Entry}
+use Rattle.jet_lines.specs.declared.entry.Entry.TheVariants as entry
 use Rattle.jet_lines.specs.declared.fault.LineFault.{LineFault}
 use Rattle.jet_lines.specs.declared.fault.LineFault.TheVariants.{TooLong, BadByte, Quote, Fields, Number, Key}
 
@@ -84,6 +86,49 @@ line_at item (b ∷ bytes) = do
   fields ← fields_at (b ∷ bytes)
   x ← item fields
   Ok (Some x)
+
+-- an idle note: the partition takes no part in the least watermark until its next event
+abbrev pub is_idle : List ℕ → Bool
+is_idle line = bytes_eq line (codes "#idle")
+
+-- the entry of a line that is no idle note
+abbrev pub entry_of : Option EventValue → Entry
+entry_of None = entry.Nothing
+entry_of (Some e) = entry.Event e
+
+-- what a line of a source file holds: an idle note, and else nothing or an event
+abbrev pub entry_at : ℕ → ℕ → List ℕ → Result Entry LineFault
+entry_at part number line = if is_idle line then Ok entry.Idle else (do
+  found ← line_at (event_at part number) line
+  Ok (entry_of found))
+
+-- the event of an entry; an idle note is none
+abbrev pub event_in : Entry → Option EventValue
+event_in entry.Nothing = None
+event_in (entry.Event e) = Some e
+event_in entry.Idle = None
+
+-- the number of the line, where it is an idle note
+abbrev pub idle_in : ℕ → Entry → Option ℕ
+idle_in number entry.Nothing = None
+idle_in number (entry.Event e) = None
+idle_in number entry.Idle = Some number
+
+-- the event of line n of a source file
+abbrev pub event_line : ℕ → ℕ → List ℕ → Result (Option EventValue) LineFault
+event_line part number line = do
+  entry ← entry_at part number line
+  Ok (event_in entry)
+
+-- line n of a source file as an idle note, whatever the number of the file
+abbrev pub idle_line : ℕ → List ℕ → Result (Option ℕ) LineFault
+idle_line number line = do
+  entry ← entry_at 0 number line
+  Ok (idle_in number entry)
+
+-- the row of line n of a side file
+abbrev pub side_line : ℕ → List ℕ → Result (Option SideValue) LineFault
+side_line number line = line_at (side_at number) line
 
 -- a call refused a line, for its fault or for want of memory
 abbrev pub Fails : {A : Type 0} → Refused LineFault → Result A LineFault → Type 0

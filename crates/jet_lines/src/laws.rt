@@ -1,20 +1,21 @@
 // Laws of the definitions. Their functions do nothing: what they promise holds of all that it speaks of.
 //
 // The first four say that what is read from the left, and what csv reads, is what the grammar says, and that
-// `Lines::next` has one right answer. The others are for a loop over the lines of a source file (`events`) or of a side
-// file (`sides`): it has read some lines, all of them good, and takes one more.
-ghost use Rattle.std.specs.Prelude.{◌≡◌, ◌≢◌, ◌↔◌, ◌+◌, ◌<◌, ◌≤◌, ◌∷◌, ◌++◌, [], ℕ, List, length, Option, Some, None, Ok, Err, true};
+// `Lines::next` has one right answer. Those that follow are for a loop over the lines of a source file (`events`) or
+// of a side file (`sides`): it has read some lines, all of them good, and takes one more. The last says in which order
+// events and idle notes stand.
+ghost use Rattle.std.specs.Prelude.{◌≡◌, ◌≢◌, ◌↔◌, ◌+◌, ◌<◌, ◌≤◌, ◌∷◌, ◌++◌, [], ℕ, List, length, All, AllPairs, Option, Some, None, Ok, Err, true};
 ghost use Rattle.std.specs.List.{list_all};
 ghost use Rattle.csv.specs.Machine.{next_record};
 ghost use Rattle.csv.specs.Reading.{default_config, strip_bom};
 ghost use Rattle.csv.specs.declared.parser.State.TheVariants as state;
 ghost use Rattle.jet_lines.specs.Cutting.{NextIs};
-ghost use Rattle.jet_lines.specs.Files.{are_good, EndAt, GoOn, HoldAll, whole_lines};
+ghost use Rattle.jet_lines.specs.Files.{are_good, EndAt, events_of, first_bad_line, GoOn, HoldAll, idles_of, whole_lines};
 ghost use Rattle.jet_lines.specs.Feeds.{NoFeed};
 ghost use Rattle.jet_lines.specs.Grammar.{IsLine, is_line_byte};
 ghost use Rattle.jet_lines.specs.Lines.{lines_of};
 ghost use Rattle.jet_lines.specs.LinesValue.{LinesValue};
-ghost use Rattle.jet_lines.specs.Readings.{event_at, line_at, side_at};
+ghost use Rattle.jet_lines.specs.Readings.{event_line, idle_line, side_line};
 ghost use Rattle.jet_items.specs.Values.{EventValue, SideValue};
 ghost use Rattle.jet_lines.specs.Scan.{fields_of};
 ghost use Rattle.jet_lines.specs.declared.cut.Cut.{Cut};
@@ -45,51 +46,51 @@ pub fn answers_are_settled()
 /// One more good line: the lines are good still, and give what they gave and what that line holds, if anything.
 pub fn a_good_line_more()
     ensures events { (part most : ℕ) (given : List (List ℕ)) (line : List ℕ) (found : Option EventValue)
-        → are_good (event_at part) most given ≡ true → length given < most → line_at (event_at part (length given + 1)) line ≡ Ok found
-        → GoOn (event_at part) most given line found }
+        → are_good (event_line part) most given ≡ true → length given < most → event_line part (length given + 1) line ≡ Ok found
+        → GoOn (event_line part) most given line found }
     ensures sides { (most : ℕ) (given : List (List ℕ)) (line : List ℕ) (found : Option SideValue)
-        → are_good side_at most given ≡ true → length given < most → line_at (side_at (length given + 1)) line ≡ Ok found
-        → GoOn side_at most given line found }
+        → are_good side_line most given ≡ true → length given < most → side_line (length given + 1) line ≡ Ok found
+        → GoOn side_line most given line found }
 {}
 
 /// Behind good lines a line with a fault is the first bad one, and the file gives what was given before it.
 pub fn the_first_bad_line()
     ensures events { (part most : ℕ) (content : List ℕ) (given : List (List ℕ)) (line : List ℕ) (others : List (List ℕ)) (fault : LineFault)
-        → are_good (event_at part) most given ≡ true → lines_of content ≡ given ++ line ∷ others → length given < most → line_at (event_at part (length given + 1)) line ≡ Err fault
-        → EndAt (event_at part) most content given fault }
+        → are_good (event_line part) most given ≡ true → lines_of content ≡ given ++ line ∷ others → length given < most → event_line part (length given + 1) line ≡ Err fault
+        → EndAt (event_line part) most content given fault }
     ensures sides { (most : ℕ) (content : List ℕ) (given : List (List ℕ)) (line : List ℕ) (others : List (List ℕ)) (fault : LineFault)
-        → are_good side_at most given ≡ true → lines_of content ≡ given ++ line ∷ others → length given < most → line_at (side_at (length given + 1)) line ≡ Err fault
-        → EndAt side_at most content given fault }
+        → are_good side_line most given ≡ true → lines_of content ≡ given ++ line ∷ others → length given < most → side_line (length given + 1) line ≡ Err fault
+        → EndAt side_line most content given fault }
 {}
 
 /// The same of a line with more than 512 bytes, whatever they are.
 pub fn a_line_too_long()
     ensures events { (part most : ℕ) (content : List ℕ) (given : List (List ℕ)) (line : List ℕ) (others : List (List ℕ))
-        → are_good (event_at part) most given ≡ true → lines_of content ≡ given ++ line ∷ others → length given < most → 512 < length line
-        → EndAt (event_at part) most content given TooLong }
+        → are_good (event_line part) most given ≡ true → lines_of content ≡ given ++ line ∷ others → length given < most → 512 < length line
+        → EndAt (event_line part) most content given TooLong }
     ensures sides { (most : ℕ) (content : List ℕ) (given : List (List ℕ)) (line : List ℕ) (others : List (List ℕ))
-        → are_good side_at most given ≡ true → lines_of content ≡ given ++ line ∷ others → length given < most → 512 < length line
-        → EndAt side_at most content given TooLong }
+        → are_good side_line most given ≡ true → lines_of content ≡ given ++ line ∷ others → length given < most → 512 < length line
+        → EndAt side_line most content given TooLong }
 {}
 
 /// The same of a line more than the file may have, whatever it is.
 pub fn one_line_too_many()
     ensures events { (part most : ℕ) (content : List ℕ) (given : List (List ℕ)) (line : List ℕ) (others : List (List ℕ))
-        → are_good (event_at part) most given ≡ true → lines_of content ≡ given ++ line ∷ others → most ≤ length given
-        → EndAt (event_at part) most content given TooMany }
+        → are_good (event_line part) most given ≡ true → lines_of content ≡ given ++ line ∷ others → most ≤ length given
+        → EndAt (event_line part) most content given TooMany }
     ensures sides { (most : ℕ) (content : List ℕ) (given : List (List ℕ)) (line : List ℕ) (others : List (List ℕ))
-        → are_good side_at most given ≡ true → lines_of content ≡ given ++ line ∷ others → most ≤ length given
-        → EndAt side_at most content given TooMany }
+        → are_good side_line most given ≡ true → lines_of content ≡ given ++ line ∷ others → most ≤ length given
+        → EndAt side_line most content given TooMany }
 {}
 
 /// Where all lines are good none is the first bad one, and the file gives what its lines hold, in their order.
 pub fn all_lines_are_good()
     ensures events { (part most : ℕ) (content : List ℕ)
-        → are_good (event_at part) most (lines_of content) ≡ true
-        → HoldAll (event_at part) most content }
+        → are_good (event_line part) most (lines_of content) ≡ true
+        → HoldAll (event_line part) most content }
     ensures sides { (most : ℕ) (content : List ℕ)
-        → are_good side_at most (lines_of content) ≡ true
-        → HoldAll side_at most content }
+        → are_good side_line most (lines_of content) ≡ true
+        → HoldAll side_line most content }
 {}
 
 /// The lines that end with a line feed are those of the bytes up to and with the last one.
@@ -105,4 +106,16 @@ pub fn given_lines_are_whole()
         → (others : List (List ℕ)) × (whole_lines content ≡ given ++ others) }
     ensures all { (content rest : List ℕ) (given : List (List ℕ)) → ((more : List ℕ) → lines_of (content ++ more) ≡ given ++ lines_of (rest ++ more))
         → NoFeed rest (length rest) → whole_lines content ≡ given }
+{}
+
+/// The events of a source file carry its number, and their lines rise from 1 on. So do the lines of its idle notes, none of
+/// which is the line of an event; and notes are read up to the line at which the events end.
+pub fn lines_of_a_file_rise()
+    ensures part { (part most : ℕ) (bytes : List ℕ) → All (λ e. e.part ≡ part) (events_of most part bytes) }
+    ensures events_from_one { (part most : ℕ) (bytes : List ℕ) → All (λ e. 1 ≤ e.line) (events_of most part bytes) }
+    ensures events_rise { (part most : ℕ) (bytes : List ℕ) → AllPairs (λ d e. d.line < e.line) (events_of most part bytes) }
+    ensures idles_from_one { (most : ℕ) (bytes : List ℕ) → All (λ n. 1 ≤ n) (idles_of most bytes) }
+    ensures idles_rise { (most : ℕ) (bytes : List ℕ) → AllPairs (λ m n. m < n) (idles_of most bytes) }
+    ensures apart { (part most : ℕ) (bytes : List ℕ) → All (λ e. All (λ n. n ≢ e.line) (idles_of most bytes)) (events_of most part bytes) }
+    ensures same_end { (part most : ℕ) (bytes : List ℕ) → first_bad_line idle_line most bytes ≡ first_bad_line (event_line part) most bytes }
 {}

@@ -1,12 +1,13 @@
 //! The lines of a job's files: the cut of a file into lines, and what one line holds.
 //!
-//! `Lines` takes a file in pieces of any size and gives its lines. `read_line` reads the event of a line of a source
-//! file and `read_side` the row of a line of a side file, or each tells the line's first fault. What a line is, what
+//! `Lines` takes a file in pieces of any size and gives its lines. `read_line` reads what a line of a source
+//! file holds and `read_side` the row of a line of a side file, or each tells the line's first fault. What a line is, what
 //! its fields and numbers are and which fault comes first stands in `specs/`. Lines with a quotation mark are read
 //! with `csv`.
 #![tactic(auto)]
 
 mod cut;
+mod entry;
 mod fault;
 mod form;
 mod laws;
@@ -17,14 +18,15 @@ mod record;
 mod split;
 
 pub use cut::Cut;
+pub use entry::Entry;
 pub use fault::LineFault;
 pub use laws::{
     a_good_line_more, a_line_too_long, all_lines_are_good, answers_are_settled,
-    csv_reads_the_fields, fields_are_of_the_grammar, given_lines_are_whole,
+    csv_reads_the_fields, fields_are_of_the_grammar, given_lines_are_whole, lines_of_a_file_rise,
     no_fields_where_the_grammar_has_none, one_line_too_many, the_first_bad_line,
     whole_lines_end_with_a_line_feed,
 };
-pub use line::{read_line, read_side};
+pub use line::{read_event, read_line, read_side};
 pub use lines::Lines;
 
 #[cfg(test)]

@@ -3,8 +3,9 @@ ghost use Rattle.std.specs.Prelude.{◌≡◌, ℕ, ◌≤◌, option_map, IfOk,
 ghost use Rattle.std.specs.List.{AllByRecursion};
 ghost use Rattle.csv.specs.Records.{fields_of as record_fields};
 ghost use Rattle.jet_items.specs.Ranges.{IsWithin, most_time};
-ghost use Rattle.jet_lines.specs.Readings.{Gives, event_at, key_of, line_at, side_at, value_at, values_at};
+ghost use Rattle.jet_lines.specs.Readings.{Gives, entry_at, event_at, event_line, key_of, side_at, side_line, value_at, values_at};
 
+use crate::entry::Entry;
 use crate::fault::LineFault;
 use crate::number::number_of;
 use crate::record::{record_of, text_at};
@@ -12,7 +13,11 @@ use csv::ByteRecord;
 use jet_items::{Event, Key, Refused, Side};
 use std::alloc::Global;
 
-/// The event of a line `ts,key,v0[,v1[,v2[,v3]]]` of a source file, or the line's first fault. An empty line holds none.
+// An idle note.
+const IDLE: &[u8] = b"#idle";
+
+/// The event of a line `ts,key,v0[,v1[,v2[,v3]]]` of a source file, or the line's first fault. An empty line holds nothing,
+/// and the line `#idle` is an idle note.
 ///
 /// `part` is the number of the file and `number` that of the line, from 1 on. The line stands without its line feed.
 pub fn read_line(
@@ -20,17 +25,35 @@ pub fn read_line(
     line: &[u8],
     part: u16,
     number: u32,
-) -> Result<Option<Event>, Refused<LineFault>>
-    ensures { Gives (λ o. o) result (line_at (event_at part number) line.now) }
+) -> Result<Entry, Refused<LineFault>>
+    ensures { Gives (λ o. o) result (entry_at part number line.now) }
 {
     if line.is_empty() {
-        return Ok(None);
+        return Ok(Entry::Nothing);
+    }
+    if line == IDLE {
+        return Ok(Entry::Idle);
     }
     match record_of(alloc, line) {
         Ok(row) => match event_of(&row, part, number) {
-            Ok(event) => Ok(Some(event)),
+            Ok(event) => Ok(Entry::Event(event)),
             Err(fault) => Err(Refused::Fault(fault)),
         },
+        Err(refused) => Err(refused),
+    }
+}
+
+/// The event of such a line, where it holds one: for a loop that does not treat idle notes.
+pub fn read_event(
+    alloc: Global,
+    line: &[u8],
+    part: u16,
+    number: u32,
+) -> Result<Option<Event>, Refused<LineFault>>
+    ensures { Gives (λ o. o) result (event_line part number line.now) }
+{
+    match read_line(alloc, line, part, number) {
+        Ok(entry) => Ok(entry.event()),
         Err(refused) => Err(refused),
     }
 }
@@ -43,7 +66,7 @@ pub fn read_side(
     line: &[u8],
     number: u32,
 ) -> Result<Option<Side>, Refused<LineFault>>
-    ensures { Gives (λ o. o) result (line_at (side_at number) line.now) }
+    ensures { Gives (λ o. o) result (side_line number line.now) }
 {
     if line.is_empty() {
         return Ok(None);

@@ -1,7 +1,7 @@
 // A file that comes in pieces, cut into lines. One vector holds the bytes of the last line and those that are left; each
 // byte is searched once for a line feed, and bytes are moved only where more than half of them are done with, so that
 // all the work together is linear in the file's size.
-ghost use Rattle.std.specs.Prelude.{◌≡◌, ◌≤◌, ◌++◌, [], false, true, OnOk, OnErr};
+ghost use Rattle.std.specs.Prelude.{◌≡◌, ◌≤◌, ◌+◌, ◌*◌, ◌++◌, [], false, true, length, OnOk, OnErr};
 ghost use Rattle.jet_lines.specs.Cutting.{NextIs};
 ghost use Rattle.jet_lines.specs.Files.{most_lines};
 
@@ -14,7 +14,7 @@ use std::marker::Model;
 /// Cuts a file into lines, in whatever pieces it comes.
 ///
 /// A line ends at a line feed or at the end of the file, and has one carriage return at its end removed. It has at most
-/// 512 bytes then. Contracts see a record of `most`, `number`, `ended`, `line` and `rest`.
+/// 512 bytes then. Contracts see a record of `most`, `number`, `ended`, `line`, `rest` and `held`.
 #[derive(Drop)]
 pub struct Lines {
     held: Vec<u8>,
@@ -30,7 +30,7 @@ pub struct Lines {
 }
 
 impl Model for Lines {
-    ghost use Rattle.std.specs.Prelude.{◌-◌, take, drop};
+    ghost use Rattle.std.specs.Prelude.{◌-◌, length, take, drop};
     ghost use Rattle.jet_lines.specs.Held.{IsHeld};
     ghost use Rattle.jet_lines.specs.LinesValue.{LinesValue};
 
@@ -42,6 +42,7 @@ impl Model for Lines {
       ended = s.ended;
       line = take (s.to - s.from) (drop s.from s.held.items);
       rest = drop s.at s.held.items;
+      held = length s.held.items;
     } };
 
     ghost invariant = { λ s. IsHeld s.held.items s.from s.to s.at s.clear s.number s.most };
@@ -52,7 +53,7 @@ impl Lines {
     /// many.
     pub fn new(alloc: Global, most: u32) -> Lines
         requires { most ≤ most_lines }
-        ensures { result ≡ record { most = most; number = 0; ended = false; line = []; rest = [] } }
+        ensures { result ≡ record { most = most; number = 0; ended = false; line = []; rest = []; held = 0 } }
     {
         Lines {
             held: Vec::new(alloc),
@@ -66,11 +67,13 @@ impl Lines {
         }
     }
 
-    /// Takes the next piece of the file. Want of memory changes nothing.
+    /// Takes the next piece of the file. Want of memory changes nothing of what comes next. Bytes that were given out are
+    /// let go, so that memory stays flat however long the file is.
     pub fn put(&mut self, piece: &[u8]) -> Result<(), NoMemory>
         requires { self.old.ended ≡ false }
-        ensures ok { OnOk result (self.new ≡ record self.old { rest = self.old.rest ++ piece.now }) }
-        ensures err { OnErr result (self.new ≡ self.old) }
+        ensures ok { OnOk result (self.new ≡ record self.old { rest = self.old.rest ++ piece.now; held = self.new.held }) }
+        ensures err { OnErr result (self.new ≡ record self.old { held = self.new.held }) }
+        ensures flat { self.new.held ≤ 2 * (length self.old.line + 2 + length self.old.rest) + length piece.now }
     {
         self.compact();
         self.append(piece)
@@ -122,7 +125,8 @@ impl Lines {
 
     // Lets bytes go that no one asks for again, where they are more than half.
     fn compact(&mut self)
-        ensures { self.new ≡ self.old }
+        ensures same { self.new ≡ record self.old { held = self.new.held } }
+        ensures flat { self.new.held ≤ 2 * (length self.old.line + 2 + length self.old.rest) }
     {
         let from = self.from;
         let len = self.held.len();
@@ -136,7 +140,7 @@ impl Lines {
     }
 
     fn append(&mut self, piece: &[u8]) -> Result<(), NoMemory>
-        ensures ok { OnOk result (self.new ≡ record self.old { rest = self.old.rest ++ piece.now }) }
+        ensures ok { OnOk result (self.new ≡ record self.old { rest = self.old.rest ++ piece.now; held = self.old.held + length piece.now }) }
         ensures err { OnErr result (self.new ≡ self.old) }
     {
         match self.held.extend_from_slice(piece) {

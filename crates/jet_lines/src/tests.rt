@@ -2,7 +2,7 @@
 ghost use Rattle.std.specs.Prelude.{◌≡◌, OnOk};
 
 use super::*;
-use jet_items::{KeyFault, NoMemory, Refused};
+use jet_items::{Event, KeyFault, NoMemory, Refused};
 use std::alloc::Global;
 use std::test::Fail;
 
@@ -11,6 +11,14 @@ fn fault_of(alloc: Global, line: &[u8]) -> Option<LineFault> {
     match read_line(alloc, line, 0, 1) {
         Err(Refused::Fault(fault)) => Some(fault),
         _ => None,
+    }
+}
+
+// The event of line 7 of file 3, if it has one.
+fn event_of(alloc: Global, line: &[u8]) -> Option<Event> {
+    match read_line(alloc, line, 3, 7) {
+        Ok(entry) => entry.event(),
+        Err(_) => None,
     }
 }
 
@@ -26,7 +34,7 @@ fn side_fault_of(alloc: Global, line: &[u8]) -> Option<LineFault> {
 fn the_first_fault_counts(rt: HostRuntime) -> Result<(), Fail> {
     let alloc = rt.alloc();
     let long = [b'a'; 513];
-    let cases: [(&[u8], LineFault); 17] = [
+    let cases: [(&[u8], LineFault); 20] = [
         (&long, LineFault::TooLong),
         (b"5,\"a\x0d", LineFault::BadByte(4)),
         (b"5,a,1,\xc3\xa4", LineFault::BadByte(6)),
@@ -35,6 +43,9 @@ fn the_first_fault_counts(rt: HostRuntime) -> Result<(), Fail> {
         (b"5,\"a\"b", LineFault::Quote),
         (b"\"\"", LineFault::Fields),
         (b"x,", LineFault::Fields),
+        (b"#idle ", LineFault::Fields),
+        (b"#IDLE", LineFault::Fields),
+        (b"\"#idle\"", LineFault::Fields),
         (b"5,a,1,2,3,4,5", LineFault::Fields),
         (b"1000000000000001,,x", LineFault::Number(0)),
         (b" 5,a,1", LineFault::Number(0)),
@@ -54,8 +65,9 @@ fn the_first_fault_counts(rt: HostRuntime) -> Result<(), Fail> {
 #[test]
 fn side_lines_have_faults_too(rt: HostRuntime) -> Result<(), Fail> {
     let alloc = rt.alloc();
-    let cases: [(&[u8], LineFault); 5] = [
+    let cases: [(&[u8], LineFault); 6] = [
         (b"a", LineFault::Fields),
+        (b"#idle", LineFault::Fields),
         (b"a,x,1,2,3,4,5", LineFault::Fields),
         (b",", LineFault::Key(KeyFault::Empty)),
         (b"a,x y", LineFault::Key(KeyFault::BadByte(1))),
@@ -92,8 +104,8 @@ fn good_lines_are_read(rt: HostRuntime) -> Result<(), Fail> {
         ),
     ];
     for (line, ts, key, v) in cases {
-        match read_line(alloc, line, 3, 7) {
-            Ok(Some(event)) => {
+        match event_of(alloc, line) {
+            Some(event) => {
                 assert_eq!(rt; (event.part, event.line, event.ts), (3, 7, ts));
                 assert_eq!(rt; event.key.bytes(), key);
                 assert_eq!(rt; event.v, v);
@@ -101,6 +113,15 @@ fn good_lines_are_read(rt: HostRuntime) -> Result<(), Fail> {
             _ => assert!(rt; false),
         }
     }
+    Ok(())
+}
+
+#[test]
+fn lines_without_an_event_are_read(rt: HostRuntime) -> Result<(), Fail> {
+    let alloc = rt.alloc();
+    assert!(rt; matches!(&read_line(alloc, b"", 3, 7), Ok(Entry::Nothing)));
+    assert!(rt; matches!(&read_line(alloc, b"#idle", 3, 7), Ok(Entry::Idle)));
+    assert!(rt; matches!(&read_side(alloc, b"", 7), Ok(None)));
     Ok(())
 }
 

@@ -20,6 +20,7 @@ returns-else-len-gt-MOST_BYTES c =
     ∙ ap (λ (l : List ℕ). take (length l) (take c.in-Some.at c.args.rest.now)) line ∙ strip_front (take c.in-Some.at c.args.rest.now) in
     let begins = begins_at c.args.ended c.args.rest.now c.in-Some.at fits here before in (
       omega (arith, len),
+      omega (arith, ap length line, raw, (strip_len (take c.in-Some.at c.args.rest.now)).1),
       omega (arith, fits),
       c.if-len-gt-MOST_BYTES.false,
       λ more may. begins more may ∙ ap (λ (l : List ℕ). l ∷ lines_of (drop (c.in-Some.at + 1) c.args.rest.now ++ more)) (sym front),

@@ -26,6 +26,7 @@ returns c =
     let front = ap (λ (l : List ℕ). take (length l) c.args.rest.now) line ∙ strip_front c.args.rest.now in
     let begins = begins_last c.args.ended c.args.rest.now (search rules) (some_length (length c.args.rest.now) c.if-is_empty.ensures) none in (
       omega (arith, ap length line, (strip_len c.args.rest.now).0),
+      omega (arith, ap length line, (strip_len c.args.rest.now).1),
       omega arith,
       c.if-len-gt-MOST_BYTES.false,
       λ more may. begins more may ∙ ap (λ (l : List ℕ). l ∷ lines_of (drop (length c.args.rest.now) c.args.rest.now ++ more)) (sym front),
