@@ -30,7 +30,8 @@ wrote_by out (Opened name file ∷ calls) = wrote_by out calls
 wrote_by out (Read file n ∷ calls) = wrote_by out calls
 wrote_by out (Missed tried ∷ calls) = wrote_by out calls
 
--- a source file of a job: its number, and the watermark of the events in the whole lines of the first n bytes of it
+-- a source file of a job: its number, and the watermark of the events in the whole lines of the first n bytes of it; there
+-- may be none where the last of these lines that is not empty is an idle note, since the file may be read on then
 pub record Source : Type 0 where
   pub file : ℕ
   pub mark : ℕ → Option ℤ

@@ -1,9 +1,12 @@
-// An outside in memory, for tests, worked rows and trials. Each call does first what may want memory, so that a call
+// An outside in memory, for tests, worked rows and trials. Besides what any outside promises, its methods say which calls
+// fail, that no other does, and how much a call moves. Each call does first what may want memory, so that a call
 // that finds none leaves all as it was.
-ghost use Rattle.std.specs.Prelude.{◌≡◌, ◌≤◌, ◌+◌, ◌-◌, ◌^◌, ◌++◌, [], ◌∷◌, ◌==◌, ℕ, List, min, false, length, map, IfOk, OnOk, OnErr, None};
+ghost use Rattle.std.specs.Prelude.{◌≡◌, ◌≢◌, ◌≤◌, ◌<◌, ◌+◌, ◌-◌, ◌^◌, ◌++◌, [], ◌∷◌, ◌==◌, ℕ, List, min, false, length, map, IfOk, OnOk, OnErr, None, Err, IsTrue};
 ghost use Rattle.std.specs.Result.{IsOk};
-ghost use Rattle.jet_file.specs.Outside.{Entry, Wrote};
+ghost use Rattle.jet_file.specs.Causes.{HasCause};
+ghost use Rattle.jet_file.specs.Outside.{Adds, Entry, Goes, LacksFile, Opens, Reads, Writes, Wrote};
 ghost use Rattle.jet_file.specs.declared.outside.Out.{Out};
+ghost use Rattle.jet_file.specs.declared.outside.OutFault.{OutFault};
 
 use crate::stored::{OpenedFile, StoredFile, bytes_left, has_file, push_place, take_bytes};
 use crate::trace::{Note, Trace};
@@ -28,7 +31,7 @@ pub struct MemoryOutside {
 }
 
 impl MemoryOutside {
-    ghost use Rattle.jet_file.specs.Memory.{memory_told, memory_opened, memory_steady, memory_faults, KeepsCalls};
+    ghost use Rattle.jet_file.specs.Memory.{memory_told, memory_opened, memory_steady, memory_faults, memory_calls, memory_fail, memory_most, next_call, is_to_fail, KeepsCalls};
     ghost use Rattle.jet_file.specs.Outside.{Told, AddsFile};
     ghost use Rattle.jet_file.specs.Trace.{note_of};
 
@@ -43,6 +46,9 @@ impl MemoryOutside {
         ensures opened { IfOk result (λ m. (file : ℕ) → memory_opened m file ≡ false) }
         ensures steady { IfOk result (λ m. memory_steady m ≡ (length fail.items == 0)) }
         ensures faults { IfOk result (λ m. memory_faults m ≡ 0) }
+        ensures calls { IfOk result (λ m. memory_calls m ≡ 0) }
+        ensures fail { IfOk result (λ m. memory_fail m ≡ fail.items) }
+        ensures most { IfOk result (λ m. memory_most m ≡ most) }
     {
         Ok(MemoryOutside {
             alloc,
@@ -89,18 +95,13 @@ impl MemoryOutside {
 
     // Counts the next call, and answers whether it is to fail.
     fn is_failing(&mut self) -> bool
-        ensures files { self.new.files ≡ self.old.files }
-        ensures opened { self.new.opened ≡ self.old.opened }
-        ensures rows { self.new.rows ≡ self.old.rows }
-        ensures notes { self.new.notes ≡ self.old.notes }
-        ensures trace { self.new.trace ≡ self.old.trace }
-        ensures faults { self.new.faults ≡ self.old.faults }
-        ensures fail { self.new.fail ≡ self.old.fail }
+        ensures answer { result ≡ is_to_fail self.old }
+        ensures called { self.new ≡ record self.old { called = next_call self.old } }
         ensures steady { length self.old.fail.items ≡ 0 → result ≡ false }
     {
         let call = self.called.saturating_add(1);
         self.called = call;
-        !self.fail.is_empty() && self.fail.contains(&call)
+        self.fail.contains(&call)
     }
 
     // Counts a fault.
@@ -124,7 +125,7 @@ fn append(output: &mut Vec<u8>, trace: &mut Trace, to: Out, bytes: &[u8]) -> Res
 
 impl Outside for MemoryOutside {
     ghost use Rattle.std.specs.Prelude.{Some, ◌-◌, ◌^◌, min};
-    ghost use Rattle.jet_file.specs.Memory.{memory_told, memory_opened, memory_steady, memory_faults};
+    ghost use Rattle.jet_file.specs.Memory.{memory_told, memory_opened, memory_steady, memory_faults, memory_most, is_to_fail, is_to_miss, CountsCall, FailsWhere};
     ghost use Rattle.std.proofs.Common.{arith};
 
     ghost told = { λ m. Some (memory_told m) };
@@ -137,7 +138,15 @@ impl Outside for MemoryOutside {
 
     ghost faults_bound = { λ m. Prim.omega arith };
 
-    fn open_file(&mut self, name: &[u8]) -> Result<FileNo, OutFault> {
+    fn open_file(&mut self, name: &[u8]) -> Result<FileNo, OutFault>
+        ensures told { Goes (Opens name.now result) (Some (memory_told self.old)) (Some (memory_told self.new)) }
+        ensures opened { Adds (memory_opened self.old) (memory_opened self.new) result }
+        ensures steady { memory_steady self.new ≡ memory_steady self.old }
+        ensures works { IsTrue (memory_steady self.old) → result ≡ Err OutFault.Failed → LacksFile name.now (Some (memory_told self.old)) }
+        ensures cause { HasCause (memory_faults self.old) (memory_faults self.new) result }
+        ensures fails { FailsWhere (is_to_miss self.old name.now) result }
+        ensures counts { CountsCall self.old self.new }
+    {
         let failing = self.is_failing();
         let asked = name.to_vec(self.alloc)?;
         if failing || !has_file(&self.files, name) {
@@ -156,7 +165,19 @@ impl Outside for MemoryOutside {
         Ok(file)
     }
 
-    fn read(&mut self, file: FileNo, buf: &mut [u8]) -> Result<usize, OutFault> {
+    fn read(&mut self, file: FileNo, buf: &mut [u8]) -> Result<usize, OutFault>
+        requires opened { IsTrue (memory_opened self.old file) }
+        requires room { 0 < length buf.old }
+        ensures bound { IfOk result (λ n. n ≤ length buf.new) }
+        ensures told { Goes (Reads file buf.new result) (Some (memory_told self.old)) (Some (memory_told self.new)) }
+        ensures opened { memory_opened self.new ≡ memory_opened self.old }
+        ensures steady { memory_steady self.new ≡ memory_steady self.old }
+        ensures works { IsTrue (memory_steady self.old) → result ≢ Err OutFault.Failed }
+        ensures cause { HasCause (memory_faults self.old) (memory_faults self.new) result }
+        ensures few { IfOk result (λ n. n ≤ memory_most self.old) }
+        ensures fails { FailsWhere (is_to_fail self.old) result }
+        ensures counts { CountsCall self.old self.new }
+    {
         if self.is_failing() {
             self.trace.push(Note::MissedRead(file))?;
             self.count_fault();
@@ -169,7 +190,18 @@ impl Outside for MemoryOutside {
         Ok(count)
     }
 
-    fn write(&mut self, to: Out, buf: &[u8]) -> Result<usize, OutFault> {
+    fn write(&mut self, to: Out, buf: &[u8]) -> Result<usize, OutFault>
+        requires { 0 < length buf.now }
+        ensures bound { IfOk result (λ n. (0 < n) × (n ≤ length buf.now)) }
+        ensures told { Goes (Writes to buf.now result) (Some (memory_told self.old)) (Some (memory_told self.new)) }
+        ensures opened { memory_opened self.new ≡ memory_opened self.old }
+        ensures steady { memory_steady self.new ≡ memory_steady self.old }
+        ensures works { IsTrue (memory_steady self.old) → result ≢ Err OutFault.Failed }
+        ensures cause { HasCause (memory_faults self.old) (memory_faults self.new) result }
+        ensures few { IfOk result (λ n. n ≤ memory_most self.old) }
+        ensures fails { FailsWhere (is_to_fail self.old) result }
+        ensures counts { CountsCall self.old self.new }
+    {
         if self.is_failing() {
             self.trace.push(Note::MissedWrite(to))?;
             self.count_fault();
