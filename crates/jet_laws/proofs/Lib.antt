@@ -1,4 +1,5 @@
 pub mod Accumulated
+pub mod Apart
 pub mod InTime
 pub mod Listed
 pub mod OneTable

@@ -1,3 +1,4 @@
 pub mod Accs
+pub mod Bags
 pub mod InTime
 pub mod RowLaws

@@ -5,9 +5,11 @@
 #![tactic(auto)]
 
 mod accs;
+mod bags;
 mod marks;
 mod rows;
 
 pub use accs::{acc_is_one, acc_stays_by_order};
+pub use bags::{events_as_bags, lates_as_bags};
 pub use marks::none_is_behind;
 pub use rows::{rows_are_one, rows_exist, rows_stay_by_order};
