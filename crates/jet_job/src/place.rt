@@ -5,9 +5,12 @@
 pub enum Place {
     /// The outermost one.
     Top,
+    /// The vertex with this number.
     Vertex(u32),
     /// A leg of a flat vertex: the number of the vertex, then that of the leg.
     Leg(u32, u32),
+    /// The edge with this number.
     Edge(u32),
+    /// The settings.
     Settings,
 }

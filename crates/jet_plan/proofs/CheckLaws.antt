@@ -13,13 +13,13 @@ use Rattle.jet_plan.specs.declared.settings.Settings.{Settings}
 use Rattle.jet_plan.specs.declared.many.Many.TheVariants.{Vertices, Edges, Files}
 use Rattle.jet_plan.specs.declared.setting_name.SettingName.TheVariants.{Members, Ring}
 use Rattle.jet_plan.specs.declared.fault.PlanFault.{PlanFault}
-use Rattle.jet_plan.specs.declared.fault.PlanFault.TheVariants.{TooMany, UnknownEnd, Setting, TooLarge}
+use Rattle.jet_plan.specs.declared.fault.PlanFault.TheVariants.{TooMany, UnknownEnd, Cycle, Setting, TooLarge}
 use Rattle.jet_plan.specs.declared.large.Large.TheVariants.{Growth, Slots}
 use Rattle.jet_plan.specs.First.{first_of, where_true, accepted}
 use Rattle.jet_plan.specs.Faults.{shape_faults, end_faults, edge_faults, range_faults, large_faults, fault}
 use Rattle.jet_plan.specs.Sizes.{sizes, too_many, files}
 use Rattle.jet_plan.specs.Names.{has_unknown_end}
-use Rattle.jet_plan.specs.Growth.{growth}
+use Rattle.jet_plan.specs.Growth.{is_cyclic, growth}
 use Rattle.jet_plan.specs.SettingRanges.{is_between, wrong_setting, wrong_size, wrong_limit, size_settings}
 use Rattle.jet_plan.specs.Rings.{slots}
 use Rattle.jet_plan.specs.Limits.{IsShaped, IsLimited}
@@ -73,20 +73,20 @@ none_told xs r x given is = none_of (first_of xs) x (sym given ∙ is)
 
 -- ---- what each group leaves
 
-abbrev AreNone : {X : Type 0} → List (Option X) → Type 0
+abbrev pub AreNone : {X : Type 0} → List (Option X) → Type 0
 AreNone [] = Unit {0}
 AreNone (o ∷ os) = (o ≡ None) × AreNone os
 
-none_each : {X : Type 0} (os : List (Option X)) → first_of os ≡ None → AreNone os
+pub none_each : {X : Type 0} (os : List (Option X)) → first_of os ≡ None → AreNone os
 none_each [] h = tt
 none_each (None ∷ os) h = (refl, none_each os h)
 none_each (Some x ∷ os) h = absurd (cc h)
 
-not_true : {X : Type 0} (b : Bool) (x : X) → where_true b x ≡ None → b ≡ false
+pub not_true : {X : Type 0} (b : Bool) (x : X) → where_true b x ≡ None → b ≡ false
 not_true true x h = absurd (cc h)
 not_true false x h = refl
 
-not_mapped : {X Y : Type 0} (f : X → Y) (o : Option X) → option_map f o ≡ None → o ≡ None
+pub not_mapped : {X Y : Type 0} (f : X → Y) (o : Option X) → option_map f o ≡ None → o ≡ None
 not_mapped f None h = refl
 not_mapped f (Some x) h = absurd (cc h)
 
@@ -107,11 +107,11 @@ shaped_of dag h =
 
 -- ---- limits
 
-option_none : {X : Type 0} (a b : Option X) → option_or a b ≡ None → a ≡ None
+pub option_none : {X : Type 0} (a b : Option X) → option_or a b ≡ None → a ≡ None
 option_none None b h = refl
 option_none (Some x) b h = absurd (cc h)
 
-not_not : (b : Bool) → not b ≡ false → b ≡ true
+pub not_not : (b : Bool) → not b ≡ false → b ≡ true
 not_not true h = refl
 not_not false h = absurd (cc h)
 
@@ -141,15 +141,15 @@ limited_of dag s shaped h =
 
 -- ---- what a valid job keeps
 
-group_none : {X : Type 0} (xs ys : List (Option X)) → first_of (xs ++ ys) ≡ None → (first_of xs ≡ None) × (first_of ys ≡ None)
+pub group_none : {X : Type 0} (xs ys : List (Option X)) → first_of (xs ++ ys) ≡ None → (first_of xs ≡ None) × (first_of ys ≡ None)
 group_none [] ys h = (refl, h)
 group_none (None ∷ xs) ys h = group_none xs ys h
 group_none (Some x ∷ xs) ys h = absurd (cc h)
 
-after_shape : (dag : Dag) (s : Settings) → fault dag s ≡ None → first_of (end_faults dag ++ (edge_faults dag s ++ (range_faults dag s ++ large_faults dag s))) ≡ None
+pub after_shape : (dag : Dag) (s : Settings) → fault dag s ≡ None → first_of (end_faults dag ++ (edge_faults dag s ++ (range_faults dag s ++ large_faults dag s))) ≡ None
 after_shape dag s h = (group_none (shape_faults dag) (end_faults dag ++ (edge_faults dag s ++ (range_faults dag s ++ large_faults dag s))) h).1
 
-after_edges : (dag : Dag) (s : Settings) → fault dag s ≡ None → first_of (range_faults dag s ++ large_faults dag s) ≡ None
+pub after_edges : (dag : Dag) (s : Settings) → fault dag s ≡ None → first_of (range_faults dag s ++ large_faults dag s) ≡ None
 after_edges dag s h =
     (group_none (edge_faults dag s) (range_faults dag s ++ large_faults dag s)
     (group_none (end_faults dag) (edge_faults dag s ++ (range_faults dag s ++ large_faults dag s)) (after_shape dag s h)).1).1
@@ -174,3 +174,9 @@ unfolding large_faults
 valid_growth dag s h =
     let none = none_each (large_faults dag s) (valid_large dag s h) in
     none_passes (λ v. nat_lt (2 ^ 20) (growth dag v.name)) dag.vertices (sym (not_mapped (λ i. TooLarge (Growth i)) (position (λ v. nat_lt (2 ^ 20) (growth dag v.name)) dag.vertices) none.0))
+
+pub valid_acyclic : (dag : Dag) (s : Settings) → fault dag s ≡ None → is_cyclic dag ≡ false
+unfolding shape_faults
+valid_acyclic dag s h =
+    let none = none_each (shape_faults dag) (group_none (shape_faults dag) (end_faults dag ++ (edge_faults dag s ++ (range_faults dag s ++ large_faults dag s))) h).0 in
+    not_true (is_cyclic dag) Cycle none.1.1.1.1.0

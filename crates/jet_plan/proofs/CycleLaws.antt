@@ -17,7 +17,7 @@ use Rattle.jet_plan.proofs.Rounds.{or_false}
 
 -- ---- tests over lists
 
-true_false : true ≡ false → ⊥
+pub true_false : true ≡ false → ⊥
 true_false h = cc h
 
 false_of : (b : Bool) → (b ≡ true → ⊥) → b ≡ false
@@ -38,19 +38,19 @@ any_into : (f : Edge → Bool) (name : List ℕ) (edges : List Edge) → list_an
 any_into f name [] = refl
 any_into f name (e ∷ edges) = any_into_step f e (edges_into name edges) (bytes_eq e.to name) _ (any_into f name edges)
 
-both : (a b : Bool) → (a && b) ≡ true → (a ≡ true) × (b ≡ true)
+pub both : (a b : Bool) → (a && b) ≡ true → (a ≡ true) × (b ≡ true)
 both true b h = (refl, h)
 both false b h = absurd (cc h)
 
-same_name : (a b : List ℕ) → bytes_eq a b ≡ true → a ≡ b
+pub same_name : (a b : List ℕ) → bytes_eq a b ≡ true → a ≡ b
 same_name a b h = (bytes_eq-Decides a b).0 h
 
 own_name : (a : List ℕ) → bytes_eq a a ≡ true
 own_name a = (bytes_eq-Decides a a).1 refl
 
 -- what passes at none fails at each
-not_any : (edges : List Edge) (p : Edge → Bool) → list_any p edges ≡ false → (e : Edge) → Contains edges e → p e ≡ false
-not_any edges p none e there = false_of (p e) (λ h. true_false (sym (list_any-from_Any p edges (there.0, e, there.1, there.2, h)) ∙ none))
+pub not_any : {X : Type 0} (xs : List X) (p : X → Bool) → list_any p xs ≡ false → (x : X) → Contains xs x → p x ≡ false
+not_any xs p none x there = false_of (p x) (λ h. true_false (sym (list_any-from_Any p xs (there.0, x, there.1, there.2, h)) ∙ none))
 
 is_known : (vertices : List Vertex) (e : Edge) → has_unknown_end vertices e ≡ false → (list_any (has_name e.from) vertices ≡ true) × (list_any (has_name e.to) vertices ≡ true)
 is_known vertices e h = not_not (list_any (has_name e.from) vertices) (list_any (has_name e.to) vertices) h
@@ -82,7 +82,7 @@ one_more edges n c name h step =
     ∙ list_any-from_Any (λ e. bytes_eq e.to name && has_walk edges n e.from) edges
     (step.there.0, step.edge, step.there.1, step.there.2, rw (step.enters, step.leaves, own_name name, h) refl)
 
-at_length : (edges : List Edge) (m n : ℕ) (b : List ℕ) → m ≡ n → has_walk edges m b ≡ true → has_walk edges n b ≡ true
+pub at_length : (edges : List Edge) (m n : ℕ) (b : List ℕ) → m ≡ n → has_walk edges m b ≡ true → has_walk edges n b ≡ true
 at_length edges m n b e h = subst (λ (k : ℕ). has_walk edges k b ≡ true) e h
 
 -- after a walk
@@ -104,13 +104,13 @@ shorter edges (suc k) name h =
     let step = last_step edges (suc k) name h in
     one_more edges k step.0 name (shorter edges k step.0 step.1) step.2
 
-cut_to : (edges : List Edge) (d n : ℕ) (name : List ℕ) → has_walk edges (d + n) name ≡ true → has_walk edges n name ≡ true
+pub cut_to : (edges : List Edge) (d n : ℕ) (name : List ℕ) → has_walk edges (d + n) name ≡ true → has_walk edges n name ≡ true
 cut_to edges zero n name h = at_length edges (zero + n) n name (omega arith) h
 cut_to edges (suc d) n name h = cut_to edges d n name (shorter edges (d + n) name (at_length edges (suc d + n) (suc (d + n)) name (omega arith) h))
 
 -- ---- names
 
-known_end : (vertices : List Vertex) (edges : List Edge) → AreKnown vertices edges → (from to : List ℕ) → Step edges from to
+pub known_end : (vertices : List Vertex) (edges : List Edge) → AreKnown vertices edges → (from to : List ℕ) → Step edges from to
     → (list_any (has_name from) vertices ≡ true) × (list_any (has_name to) vertices ≡ true)
 known_end vertices edges known from to step =
     let e = step.edge in
@@ -237,15 +237,21 @@ walks_in_fewer p edges (suc n) name h =
     (any_kept (λ e. bytes_eq e.to name && has_walk (filter p edges) n e.from) p edges
     (sym (any_into (λ e. has_walk (filter p edges) n e.from) name (filter p edges)) ∙ h))
 
--- in a graph without a cycle no walk over some of the edges is as long as the vertices are many
+-- in a graph without a cycle no walk is as long as the vertices are many
+pub no_long_walk : (vertices : List Vertex) (edges : List Edge) → list_any (λ v. has_walk edges (length vertices) v.name) vertices ≡ false
+    → (name : List ℕ) → list_any (has_name name) vertices ≡ true → has_walk edges (length vertices) name ≡ false
+no_long_walk vertices edges none name here =
+    let found = Any-from_list_any (has_name name) vertices here in
+    let same : (found.1).name ≡ name = same_name (found.1).name name found.4 in
+    subst (λ (n : List ℕ). has_walk edges (length vertices) n ≡ false) same
+    (not_any vertices (λ v. has_walk edges (length vertices) v.name) none found.1 (found.0, found.2, found.3))
+
+-- nor is one over some of the edges
 pub no_walk : (p : Edge → Bool) (vertices : List Vertex) (edges : List Edge) → list_any (λ v. has_walk edges (length vertices) v.name) vertices ≡ false
     → (name : List ℕ) → list_any (has_name name) vertices ≡ true → has_walk (filter p edges) (length vertices) name ≡ false
 no_walk p vertices edges none name here =
-    false_of (has_walk (filter p edges) (length vertices) name) (λ h.
-    let walks = walks_in_fewer p edges (length vertices) name h in
-    let found = Any-from_list_any (has_name name) vertices here in
-    let same : (found.1).name ≡ name = same_name (found.1).name name found.4 in
-    true_false (sym (list_any-from_Any (λ v. has_walk edges (length vertices) v.name) vertices (found.0, found.1, found.2, found.3, rw same walks)) ∙ none))
+    false_of (has_walk (filter p edges) (length vertices) name)
+    (λ h. true_false (sym (walks_in_fewer p edges (length vertices) name h) ∙ no_long_walk vertices edges none name here))
 
 start_step : (vertices : List Vertex) (e : Edge) (es : List Edge) (b : Bool) → list_any (has_name e.from) vertices ≡ true → StartIn (λ name. list_any (has_name name) vertices) es → StartIn (λ name. list_any (has_name name) vertices) (cond b (e ∷ es) es)
 start_step vertices e es true here rest = (here, rest)

@@ -1,7 +1,10 @@
 pub mod CheckLaws
 pub mod CycleLaws
+pub mod Depths
+pub mod InductionLaws
 pub mod MeasureLaws
 pub mod Rounds
+pub mod ShapeLaws
 pub mod Sums
 pub mod TextLemmas
 pub mod Unknowns

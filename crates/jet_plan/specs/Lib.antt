@@ -1,6 +1,7 @@
 pub mod Along
 pub mod AlongLaws
 pub mod Defaults
+pub mod Depth
 pub mod Ends
 pub mod FaultNumbers
 pub mod Faults
@@ -8,6 +9,7 @@ pub mod First
 pub mod Gathering
 pub mod Graph
 pub mod Growth
+pub mod JobShape
 pub mod Kinds
 pub mod Limits
 pub mod Names

@@ -10,6 +10,7 @@ pub struct Edge {
     pub from: Key,
     /// The vertex that takes them.
     pub to: Key,
+    /// How it picks the instance that takes an item.
     pub route: Route,
     /// Whether items also go to instances on other members.
     pub distributed: bool,

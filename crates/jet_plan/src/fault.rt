@@ -55,7 +55,7 @@ pub enum PlanFault {
     /// What belongs together would not come together behind the edge.
     #[error("edge {0} does not gather what belongs together")]
     NotGathered(u32),
-    /// A key of more than 40 bytes may leave the vertex.
+    /// A key of more than 40 bytes may leave the vertex, and no `Key` holds more.
     #[error("keys at vertex {0} may have more than 40 bytes")]
     KeyGrowth(u32),
     /// The sizes of the accumulate vertex are refused.

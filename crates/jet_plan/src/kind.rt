@@ -31,7 +31,8 @@ pub enum Kind {
     Flat {
         legs: List<LegSpec>,
     },
-    /// Joins each event with the rows of its key. Of the fields 0 to 3 are the event's values and 4 to 7 the row's.
+    /// Joins each event with the rows of its key. Of the fields 0 to 3 are the event's values and 4 to 7 the row's; a
+    /// number above 7 counts modulo 8.
     Join {
         mode: ModeSpec,
         rekey: bool,

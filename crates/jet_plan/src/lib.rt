@@ -42,7 +42,7 @@ pub use edge::Edge;
 pub use fault::PlanFault;
 pub use kind::Kind;
 pub use large::Large;
-pub use laws::measures_keep_the_rules;
+pub use laws::{edges_lead_deeper, measures_keep_the_rules, valid_jobs_have_their_shape};
 pub use leg::LegSpec;
 pub use many::Many;
 pub use mode::ModeSpec;

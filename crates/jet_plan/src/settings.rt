@@ -18,7 +18,7 @@ pub struct Settings {
     pub turns: i64,
     /// How far a source may read ahead of the slowest, 0 to 10^15, in the unit of the timestamps.
     pub ahead: i64,
-    /// Lines of a file at most, 1 to 4294967294.
+    /// Lines of a file at most, 1 to 4294967294: the number of a line, and of the one behind the last, is a `u32`.
     pub lines: i64,
 }
 

@@ -1,14 +1,9 @@
-use Rattle.std.proofs.Common.{◌≡◌, ℕ, List, [], ◌∷◌, length, not, refl, ap}
-use Rattle.jet_plan.specs.AlongLaws.{AreAlike, along_keeps}
+use Rattle.std.proofs.Common.{◌≡◌, length, not, ap}
+use Rattle.jet_plan.specs.AlongLaws.{along_keeps}
 use Rattle.jet_plan.specs.Growth.{stream_edges, by_kind, longest_rule, growth_rule}
 use Rattle.jet_plan.proofs.CycleLaws.{no_walk}
+use Rattle.jet_plan.proofs.Depths.{alike_same}
 use Rattle.jet_plan.proofs.laws.measures_keep_the_rules.Goals as goal
-
-alike_same : (xs ys : List ℕ) → AreAlike (λ x y. x ≡ y) xs ys → xs ≡ ys
-alike_same [] [] h = refl
-alike_same [] (y ∷ ys) h = absurd h
-alike_same (x ∷ xs) [] h = absurd h
-alike_same (x ∷ xs) (y ∷ ys) h = let a = h.0 in let b = alike_same xs ys h.1 in cc
 
 pub returns-clause-keys : goal.returns-clause-keys
 returns-clause-keys c =
