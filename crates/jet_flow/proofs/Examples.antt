@@ -14,7 +14,7 @@ use Rattle.jet_plan.specs.declared.mode.ModeSpec.{ModeSpec}
 use Rattle.jet_plan.specs.declared.mode.ModeSpec.TheVariants.{Inner, Left}
 use Rattle.jet_plan.specs.declared.route.Route.TheVariants.{Unicast, Broadcast}
 use Rattle.jet_flow.specs.BaseJob.{base_window}
-use Rattle.jet_flow.specs.Contents.{contents_of}
+use Rattle.jet_flow.specs.Contents.{behind_at, contents_of, was_behind}
 use Rattle.jet_flow.specs.Flow.{pick}
 use Rattle.jet_flow.specs.Inflows.{inflows}
 use Rattle.jet_flow.specs.SideFiles.{first_bad_row, rows_of}
@@ -64,6 +64,24 @@ joins = (refl, refl, refl)
 
 picks : map pick (0 ∷ 3 ∷ 4 ∷ 7 ∷ 8 ∷ 15 ∷ []) ≡ OfEvent 0 ∷ OfEvent 3 ∷ OfSide 0 ∷ OfSide 3 ∷ OfEvent 0 ∷ OfSide 3 ∷ []
 picks = refl
+
+-- ---- events that came late
+
+-- a source of two files
+idle_dag : Dag
+idle_dag = record { vertices = record { name = codes "s"; parallelism = 1; kind = Source (codes "p0" ∷ codes "p1" ∷ []) (pos 3) } ∷ []; edges = [] }
+
+-- in the first file this line stands between the first event and the last, which has this time
+idle_files : List ℕ → List ℕ → List ℕ → List ℕ
+idle_files line ts name = if bytes_eq name (codes "p0") then codes "7,a,1\n" ++ line ++ codes "\n" ++ ts ++ codes ",a,1\n" else codes "41,a,1\n"
+
+-- behind an idle note an event is behind where it is below the mark of the other file, and without one it is not
+behind_a_note : (was_behind 5 100 (idle_files (codes "#idle") (codes "40")) idle_dag (event 3 (pos 40) (codes "a") (pos 1)) ≡ false)
+    × (was_behind 5 100 (idle_files (codes "#idle") (codes "12")) idle_dag (event 3 (pos 12) (codes "a") (pos 1)) ≡ true)
+    × (was_behind 5 100 (idle_files [] (codes "12")) idle_dag (event 3 (pos 12) (codes "a") (pos 1)) ≡ false)
+    × (behind_at 5 100 (idle_files (codes "#idle") (codes "12")) idle_dag 0 3 ≡ true)
+unfolding event idle_dag idle_files fields_from
+behind_a_note = (refl, refl, refl, refl)
 
 -- ---- side files
 

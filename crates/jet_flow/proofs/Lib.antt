@@ -4,6 +4,7 @@ pub mod Each
 pub mod Examples
 pub mod Flows
 pub mod Numbers
+pub mod Places
 pub mod ReadKeys
 pub mod ShortKeys
 pub mod Valid

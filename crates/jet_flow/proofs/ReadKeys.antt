@@ -7,10 +7,10 @@ use Rattle.std.proofs.lemmas.List.Elements.{All-from_recursion}
 use Rattle.jet_items.specs.KeyBytes.{is_key_byte}
 use Rattle.jet_items.specs.KeyFaults.{where_bad}
 use Rattle.jet_items.specs.declared.key.KeyFault.TheVariants.{Empty, Long}
-use Rattle.jet_items.specs.Values.{SideValue}
+use Rattle.jet_items.specs.Values.{EventValue, SideValue}
 use Rattle.jet_lines.specs.Files.{numbered_at, readings, item_of, items_of, events_of}
 use Rattle.jet_lines.specs.Lines.{lines_of}
-use Rattle.jet_lines.specs.Readings.{◌>>=◌, fields_at, key_of, key_or_fault, values_at, value_at, event_at, side_at, line_at}
+use Rattle.jet_lines.specs.Readings.{◌>>=◌, fields_at, key_of, key_or_fault, values_at, value_at, event_at, side_at, line_at, is_idle, entry_of, entry_at, event_in, event_line, side_line}
 use Rattle.jet_lines.specs.declared.fault.LineFault.{LineFault}
 use Rattle.jet_plan.specs.declared.dag.Dag.{Dag}
 use Rattle.jet_flow.specs.Contents.{contents_of, source_files, side_files}
@@ -74,16 +74,26 @@ line_holds P item each (b ∷ bytes) =
     go_on (λ fields. ⊤) (IfThere P) (fields_at (b ∷ bytes)) _ (of_any (fields_at (b ∷ bytes))) (λ fields t.
     go_on P (IfThere P) (item fields) _ (each fields) (λ x p. p))
 
-numbered_holds : {A : Type 0} (P : A → Type 0) (item : ℕ → List (List ℕ) → Result A LineFault) → ((n : ℕ) (fields : List (List ℕ)) → IfRead P (item n fields)) → (most : ℕ) (p : ℕ × List ℕ)
-    → IfRead (IfThere P) (numbered_at item most p)
-numbered_holds P item each most p = if_either (IfThere P) (nat_le p.0 most) _ _ (line_holds P (item p.0) (each p.0) p.1) tt
+entry_holds : (P : EventValue → Type 0) (found : Option EventValue) → IfThere P found → IfThere P (event_in (entry_of found))
+entry_holds P None h = tt
+entry_holds P (Some e) h = h
+
+event_holds : (P : EventValue → Type 0) (part n : ℕ) → ((fields : List (List ℕ)) → IfRead P (event_at part n fields)) → (line : List ℕ) → IfRead (IfThere P) (event_line part n line)
+event_holds P part n each line =
+    go_on (λ x. IfThere P (event_in x)) (IfThere P) (entry_at part n line) _
+    (if_either (λ x. IfThere P (event_in x)) (is_idle line) _ _ tt
+    (go_on (IfThere P) (λ x. IfThere P (event_in x)) (line_at (event_at part n) line) _ (line_holds P (event_at part n) each line) (entry_holds P))) (λ x h. h)
+
+numbered_holds : {A : Type 0} (P : A → Type 0) (read : ℕ → List ℕ → Result (Option A) LineFault) → ((n : ℕ) (line : List ℕ) → IfRead (IfThere P) (read n line)) → (most : ℕ) (p : ℕ × List ℕ)
+    → IfRead (IfThere P) (numbered_at read most p)
+numbered_holds P read each most p = if_either (IfThere P) (nat_le p.0 most) _ _ (each p.0 p.1) tt
 
 -- ---- files
 
-readings_hold : {A : Type 0} (P : A → Type 0) (item : ℕ → List (List ℕ) → Result A LineFault) → ((n : ℕ) (fields : List (List ℕ)) → IfRead P (item n fields)) → (most : ℕ) (bytes : List ℕ)
-    → AllByRecursion (IfRead (IfThere P)) (readings item most bytes)
-readings_hold P item each most bytes =
-    each_map (λ p. ⊤) (IfRead (IfThere P)) (numbered_at item most) (λ p t. numbered_holds P item each most p) (enumerate_from 1 (lines_of bytes)) (each_of (λ p. ⊤) (λ p. tt) (enumerate_from 1 (lines_of bytes)))
+readings_hold : {A : Type 0} (P : A → Type 0) (read : ℕ → List ℕ → Result (Option A) LineFault) → ((n : ℕ) (line : List ℕ) → IfRead (IfThere P) (read n line)) → (most : ℕ) (bytes : List ℕ)
+    → AllByRecursion (IfRead (IfThere P)) (readings read most bytes)
+readings_hold P read each most bytes =
+    each_map (λ p. ⊤) (IfRead (IfThere P)) (numbered_at read most) (λ p t. numbered_holds P read each most p) (enumerate_from 1 (lines_of bytes)) (each_of (λ p. ⊤) (λ p. tt) (enumerate_from 1 (lines_of bytes)))
 
 item_holds : {A : Type 0} (P : A → Type 0) (r : Result (Option A) LineFault) → IfRead (IfThere P) r → IfThere P (item_of r)
 item_holds P (Ok item) h = h
@@ -100,14 +110,14 @@ row_holds P rows (Ok (Some s)) h = if_either (IfThere P) (nat_lt (rows_with s.ke
 rows_are_short : (most : ℕ) (bytes : List ℕ) → AllByRecursion (λ s. length s.label ≤ 24) (rows_of most bytes)
 rows_are_short most bytes =
     items_hold (λ s. length s.label ≤ 24) _
-    (each_map (λ p. IfRead (IfThere (λ s. length s.label ≤ 24)) p.1) (IfRead (IfThere (λ s. length s.label ≤ 24))) _ (λ p h. row_holds (λ s. length s.label ≤ 24) (filter_map item_of (take p.0 (readings side_at most bytes))) p.1 h) (enumerate_from 0 (readings side_at most bytes))
-    (each_numbered (IfRead (IfThere (λ s. length s.label ≤ 24))) 0 (readings side_at most bytes) (readings_hold (λ s. length s.label ≤ 24) side_at side_is_short most bytes)))
+    (each_map (λ p. IfRead (IfThere (λ s. length s.label ≤ 24)) p.1) (IfRead (IfThere (λ s. length s.label ≤ 24))) _ (λ p h. row_holds (λ s. length s.label ≤ 24) (filter_map item_of (take p.0 (readings side_line most bytes))) p.1 h) (enumerate_from 0 (readings side_line most bytes))
+    (each_numbered (IfRead (IfThere (λ s. length s.label ≤ 24))) 0 (readings side_line most bytes) (readings_hold (λ s. length s.label ≤ 24) side_line (λ n line. line_holds (λ s. length s.label ≤ 24) (side_at n) (side_is_short n) line) most bytes)))
 
 pub contents_are_short : (most : ℕ) (bytes : List ℕ → List ℕ) (dag : Dag) → AreShort (contents_of most bytes dag)
 contents_are_short most bytes dag = record {
   keys = λ name. All-from_recursion (λ e. length e.key ≤ 24) _
       (each_flat_map (λ p. ⊤) (λ e. length e.key ≤ 24) (λ p. events_of most p.0 (bytes (file_name p.1)))
-      (λ p t. items_hold (λ e. length e.key ≤ 24) _ (readings_hold (λ e. length e.key ≤ 24) (event_at p.0) (event_is_short p.0) most (bytes (file_name p.1))))
+      (λ p t. items_hold (λ e. length e.key ≤ 24) _ (readings_hold (λ e. length e.key ≤ 24) (event_line p.0) (λ n line. event_holds (λ e. length e.key ≤ 24) p.0 n (event_is_short p.0 n) line) most (bytes (file_name p.1))))
       (source_files dag name) (each_of (λ p. ⊤) (λ p. tt) (source_files dag name)));
   labels = λ name. All-from_recursion (λ s. length s.label ≤ 24) _
       (each_flat_map (λ file. ⊤) (λ s. length s.label ≤ 24) (λ file. rows_of most (bytes (file_name file)))

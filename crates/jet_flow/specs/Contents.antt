@@ -1,10 +1,10 @@
 -- What the files of a job hold, from their bytes.
-use Rattle.std.specs.Prelude.{ℕ, pos, Bool, false, not, List, [], length, take_while, slice_get}
-use Rattle.std.specs.List.{flat_map, find, enumerate_from}
+use Rattle.std.specs.Prelude.{ℕ, ◌==◌, pos, Bool, false, not, ◌&&◌, ◌||◌, List, [], length, take_while, slice_get}
+use Rattle.std.specs.List.{flat_map, find, enumerate_from, list_any}
 use Rattle.std.specs.Option.{option_map_or}
-use Rattle.jet_items.specs.Marks.{is_behind}
+use Rattle.jet_items.specs.Marks.{is_behind, is_under, idle_before}
 use Rattle.jet_items.specs.Values.{EventValue}
-use Rattle.jet_lines.specs.Files.{events_of}
+use Rattle.jet_lines.specs.Files.{events_of, idles_of}
 use Rattle.jet_plan.specs.declared.dag.Dag.{Dag}
 use Rattle.jet_plan.specs.Names.{has_name}
 use Rattle.jet_flow.specs.DataFiles.{DataFile, file_name, sources_of, sides_of, data_files}
@@ -33,12 +33,32 @@ contents_of most bytes dag = record {
 
 -- ---- which events came late
 
--- the event stood behind its file's mark; a side file has none
-abbrev pub behind_in : ℕ → ℕ → (List ℕ → List ℕ) → EventValue → DataFile → Bool
-behind_in grain most bytes e (SourceFile name lag) = is_behind lag (pos grain) (events_of most e.part (bytes name)) e
-behind_in grain most bytes e (SideFile name) = false
+-- the event of file p, as it was read, stood below the mark of the events before it in its file; a side file has none
+abbrev pub behind_own : ℕ → ℕ → (List ℕ → List ℕ) → EventValue → DataFile → Bool
+behind_own grain most bytes e (SourceFile name lag) = is_behind lag (pos grain) (events_of most e.part (bytes name)) e
+behind_own grain most bytes e (SideFile name) = false
 
--- the event that was read stood behind the mark of its file, also where the vertices changed it since: they leave the
--- number of its file, its line and its time
+-- an idle note stands before the event in its file
+abbrev pub behind_idle : ℕ → (List ℕ → List ℕ) → EventValue → DataFile → Bool
+behind_idle most bytes e (SourceFile name lag) = idle_before e.line (idles_of most (bytes name))
+behind_idle most bytes e (SideFile name) = false
+
+-- the event stands below the mark of all events of another source file
+abbrev pub under_other : ℕ → ℕ → (List ℕ → List ℕ) → EventValue → ℕ × DataFile → Bool
+under_other grain most bytes e (q, SourceFile name lag) = not (q == e.part) && is_under lag (pos grain) (events_of most q (bytes name)) e
+under_other grain most bytes e (q, SideFile name) = false
+
+-- behind its own mark; or behind an idle note, where its file's mark may have been raised to that of another source file
+abbrev pub behind_in : ℕ → ℕ → (List ℕ → List ℕ) → Dag → EventValue → DataFile → Bool
+behind_in grain most bytes dag e file = behind_own grain most bytes e file
+    || (behind_idle most bytes e file && list_any (under_other grain most bytes e) (enumerate_from 0 (data_files dag)))
+
+-- the event that was read stood behind, also where the vertices changed it since: they leave the number of its file, its
+-- line and its time
 abbrev pub was_behind : ℕ → ℕ → (List ℕ → List ℕ) → Dag → EventValue → Bool
-was_behind grain most bytes dag e = option_map_or (behind_in grain most bytes e) (slice_get (data_files dag) e.part) false
+was_behind grain most bytes dag e = option_map_or (behind_in grain most bytes dag e) (slice_get (data_files dag) e.part) false
+
+-- the event on this line of this file was behind
+abbrev pub behind_at : ℕ → ℕ → (List ℕ → List ℕ) → Dag → ℕ → ℕ → Bool
+behind_at grain most bytes dag part line =
+    option_map_or (λ file. list_any (λ d. (d.line == line) && was_behind grain most bytes dag d) (events_of most part (bytes (file_name file)))) (slice_get (data_files dag) part) false

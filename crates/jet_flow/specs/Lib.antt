@@ -5,4 +5,5 @@ pub mod Flow
 pub mod Grain
 pub mod Inflows
 pub mod Keys
+pub mod Places
 pub mod SideFiles

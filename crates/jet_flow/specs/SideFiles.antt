@@ -3,7 +3,7 @@ use Rattle.std.specs.Prelude.{ℕ, nat_lt, List, take, map, filter_map, count_by
 use Rattle.std.specs.List.{enumerate_from}
 use Rattle.jet_items.specs.Values.{SideValue}
 use Rattle.jet_lines.specs.Files.{fault_of, first_of, item_of, items_of, readings}
-use Rattle.jet_lines.specs.Readings.{side_at}
+use Rattle.jet_lines.specs.Readings.{side_line}
 use Rattle.jet_lines.specs.declared.fault.LineFault.{LineFault}
 use Rattle.jet_lines.specs.declared.fault.LineFault.TheVariants.{KeyFull}
 
@@ -27,7 +27,7 @@ reading_after rows (Err fault) = Err fault
 
 -- what the lines of a side file hold, each by itself and then behind the rows of the lines before it
 abbrev pub side_readings : ℕ → List ℕ → List (Result (Option SideValue) LineFault)
-side_readings most bytes = map (λ p. reading_after (filter_map item_of (take p.0 (readings side_at most bytes))) p.1) (enumerate_from 0 (readings side_at most bytes))
+side_readings most bytes = map (λ p. reading_after (filter_map item_of (take p.0 (readings side_line most bytes))) p.1) (enumerate_from 0 (readings side_line most bytes))
 
 -- the rows of the lines before the first bad one
 abbrev pub rows_of : ℕ → List ℕ → List SideValue

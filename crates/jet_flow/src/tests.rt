@@ -91,6 +91,9 @@ fn keep_the_laws(plan: &Plan) -> u64 {
     files_hold_short_keys(plan.dag());
     source_files_have_their_numbers(plan.dag());
     the_file_enters_the_window(plan.dag());
+    events_keep_their_places(plan.dag());
+    events_stand_in_their_files(plan.dag());
+    without_idle_notes_the_own_mark_counts(plan.dag());
     grain(plan.dag())
 }
 
