@@ -10,7 +10,7 @@ use Rattle.jet_tasklet.specs.declared.arrival.Arrival.{Arrival}
 use Rattle.jet_tasklet.specs.declared.any.AnyTasklet.{AnyTasklet}
 use Rattle.jet_tasklet.specs.declared.any.AnyTasklet.TheVariants as any
 use Rattle.jet_tasklet.specs.Kinds.{stamps, maps, filters, flats, joins, frames, combines, inputs_of, outputs_of}
-use Rattle.jet_tasklet.specs.Any.{AnyKeeps, any_with_input, any_with_output}
+use Rattle.jet_tasklet.specs.Any.{AnyKeeps, AnyIsLawful, any_with_input, any_with_output}
 use Rattle.jet_tasklet.proofs.Meeting.{input_keeps, output_keeps}
 
 -- the conveyor of one input met
@@ -32,3 +32,22 @@ any_output_keeps (any.Flat t) came gave n d was w k at met = output_keeps flats.
 any_output_keeps (any.Join t) came gave n d was w k at met = output_keeps joins.stands joins.amid joins.takes t came gave n d was w at met k
 any_output_keeps (any.Frame t) came gave n d was w k at met = output_keeps frames.stands frames.amid frames.takes t came gave n d was w at met k
 any_output_keeps (any.Combine t) came gave n d was w k at met = output_keeps combines.stands combines.amid combines.takes t came gave n d was w at met k
+
+-- what a tasklet keeps, and that there is something that it keeps
+pub any_kept : (t : AnyTasklet) (came : List Arrival) (gave : List Item) → AnyKeeps t came gave → AnyIsLawful t
+any_kept (any.Stamp t) came gave k = record { came = came; gave = gave; keeps = k }
+any_kept (any.Map t) came gave k = record { came = came; gave = gave; keeps = k }
+any_kept (any.Filter t) came gave k = record { came = came; gave = gave; keeps = k }
+any_kept (any.Flat t) came gave k = record { came = came; gave = gave; keeps = k }
+any_kept (any.Join t) came gave k = record { came = came; gave = gave; keeps = k }
+any_kept (any.Frame t) came gave k = record { came = came; gave = gave; keeps = k }
+any_kept (any.Combine t) came gave k = record { came = came; gave = gave; keeps = k }
+
+pub any_keeps : (t : AnyTasklet) → AnyIsLawful t → (came : List Arrival) × (gave : List Item) × AnyKeeps t came gave
+any_keeps (any.Stamp t) l = (l.came, l.gave, l.keeps)
+any_keeps (any.Map t) l = (l.came, l.gave, l.keeps)
+any_keeps (any.Filter t) l = (l.came, l.gave, l.keeps)
+any_keeps (any.Flat t) l = (l.came, l.gave, l.keeps)
+any_keeps (any.Join t) l = (l.came, l.gave, l.keeps)
+any_keeps (any.Frame t) l = (l.came, l.gave, l.keeps)
+any_keeps (any.Combine t) l = (l.came, l.gave, l.keeps)

@@ -7,8 +7,7 @@ use Rattle.jet_items.specs.Order.{Each}
 use Rattle.jet_boxes.specs.declared.port.Port.{Port}
 use Rattle.jet_boxes.specs.declared.port.Port.TheVariants.{Stream}
 use Rattle.jet_boxes.specs.Entry.{Entry}
-use Rattle.jet_ring.specs.Ring.{Ring, TxView}
-use Rattle.jet_conveyor.specs.declared.conveyor.Conveyor.{Conveyor}
+use Rattle.jet_ring.specs.Ring.{Ring, TxView, RxView}
 use Rattle.jet_conveyor.specs.Conveyor as conveyor
 use Rattle.jet_router.specs.declared.router.Router.{Router}
 use Rattle.jet_router.specs.Router as router
@@ -23,9 +22,14 @@ use Rattle.jet_tasklet.specs.Outputs.{OutputView, outputs_view}
 use Rattle.jet_tasklet.specs.Turned.{InputGoes, OutputGoes, Turned}
 use Rattle.jet_tasklet.specs.Keeps.{IsLawful, Goes}
 use Rattle.jet_tasklet.specs.Kinds.{stamps, maps, filters, flats, joins, frames, combines, inputs_of, outputs_of}
-use Rattle.jet_tasklet.specs.Any.{AnyIsLawful, AnyGoes, AnyTurned, any_with_input, any_with_output}
+use Rattle.jet_tasklet.specs.Any.{AnyIsLawful, AnyKeeps, AnyGoes, AnyTurned, any_with_output}
+use Rattle.jet_tasklet.specs.declared.arrival.Arrival.{Arrival}
+use Rattle.jet_tasklet.specs.Views.{ins, outs}
+use Rattle.jet_tasklet.specs.Meeting.{HasEnd, HasQueue, OutputMet, InputMet, AnyGiverMet, AnyTakerMet}
+use Rattle.jet_tasklet.proofs.AnyMeeting.{any_kept, any_keeps}
 use Rattle.jet_tasklet.specs.Chain.{ring_in, ring_out, Ends, ends_of, all_ends, AreLinked, AreJoined, IsChain}
-use Rattle.jet_tasklet.proofs.Meeting.{input_keeps, output_keeps}
+use Rattle.jet_tasklet.proofs.Keeping.{lawful_goes}
+use Rattle.jet_tasklet.proofs.Meeting.{output_keeps}
 
 -- ---- a turn
 ring_in_stays : (vs ws : List InputView) → AllZip InputGoes vs ws → ring_in ws ≡ ring_in vs
@@ -58,19 +62,14 @@ any_turned_ends (any.Frame t) (any.Frame u) h = turned_ends frames.same t u h
 any_turned_ends (any.Combine t) (any.Combine u) h = turned_ends combines.same t u h
 any_turned_ends t u h = absurd h
 
-lawful_next : {P : Type 0} (stands : P → List Entry → List Item → Type 0) (amid : P → List Entry → Entry → List Item → Type 0) (takes : P → Port → ℕ → Type 0) (a b : Tasklet P) → IsLawful stands amid takes a → Goes stands amid takes a b → IsLawful stands amid takes b
-lawful_next stands amid takes a b l f =
-    let r = f.goes l.came l.gave l.keeps in
-    record { came = l.came ++ r.0; gave = l.gave ++ r.1; keeps = r.2 }
-
 pub any_lawful_next : (t u : AnyTasklet) → AnyIsLawful t → AnyGoes t u → AnyIsLawful u
-any_lawful_next (any.Stamp t) (any.Stamp u) l f = lawful_next stamps.stands stamps.amid stamps.takes t u l f
-any_lawful_next (any.Map t) (any.Map u) l f = lawful_next maps.stands maps.amid maps.takes t u l f
-any_lawful_next (any.Filter t) (any.Filter u) l f = lawful_next filters.stands filters.amid filters.takes t u l f
-any_lawful_next (any.Flat t) (any.Flat u) l f = lawful_next flats.stands flats.amid flats.takes t u l f
-any_lawful_next (any.Join t) (any.Join u) l f = lawful_next joins.stands joins.amid joins.takes t u l f
-any_lawful_next (any.Frame t) (any.Frame u) l f = lawful_next frames.stands frames.amid frames.takes t u l f
-any_lawful_next (any.Combine t) (any.Combine u) l f = lawful_next combines.stands combines.amid combines.takes t u l f
+any_lawful_next (any.Stamp t) (any.Stamp u) l f = lawful_goes stamps.stands stamps.amid stamps.takes t u l f
+any_lawful_next (any.Map t) (any.Map u) l f = lawful_goes maps.stands maps.amid maps.takes t u l f
+any_lawful_next (any.Filter t) (any.Filter u) l f = lawful_goes filters.stands filters.amid filters.takes t u l f
+any_lawful_next (any.Flat t) (any.Flat u) l f = lawful_goes flats.stands flats.amid flats.takes t u l f
+any_lawful_next (any.Join t) (any.Join u) l f = lawful_goes joins.stands joins.amid joins.takes t u l f
+any_lawful_next (any.Frame t) (any.Frame u) l f = lawful_goes frames.stands frames.amid frames.takes t u l f
+any_lawful_next (any.Combine t) (any.Combine u) l f = lawful_goes combines.stands combines.amid combines.takes t u l f
 any_lawful_next t u l f = absurd f
 
 -- ---- a meeting
@@ -83,15 +82,6 @@ any_lawful_output (any.Join t) n d was w l at met = record { came = l.came; gave
 any_lawful_output (any.Frame t) n d was w l at met = record { came = l.came; gave = l.gave; keeps = output_keeps frames.stands frames.amid frames.takes t l.came l.gave n d was w at met l.keeps }
 any_lawful_output (any.Combine t) n d was w l at met = record { came = l.came; gave = l.gave; keeps = output_keeps combines.stands combines.amid combines.takes t l.came l.gave n d was w at met l.keeps }
 
-pub any_lawful_input : (t : AnyTasklet) (n q : ℕ) (was w : Conveyor) → AnyIsLawful t → slice_get (map (λ (i : Input). i.conveyor) (inputs_of t)) n ≡ Some was → conveyor.Refreshed (conveyor.view was) (conveyor.view w) q → AnyIsLawful (any_with_input t n was w)
-any_lawful_input (any.Stamp t) n q was w l at met = record { came = l.came; gave = l.gave; keeps = input_keeps stamps.stands stamps.amid stamps.takes t l.came l.gave n q was w at met l.keeps }
-any_lawful_input (any.Map t) n q was w l at met = record { came = l.came; gave = l.gave; keeps = input_keeps maps.stands maps.amid maps.takes t l.came l.gave n q was w at met l.keeps }
-any_lawful_input (any.Filter t) n q was w l at met = record { came = l.came; gave = l.gave; keeps = input_keeps filters.stands filters.amid filters.takes t l.came l.gave n q was w at met l.keeps }
-any_lawful_input (any.Flat t) n q was w l at met = record { came = l.came; gave = l.gave; keeps = input_keeps flats.stands flats.amid flats.takes t l.came l.gave n q was w at met l.keeps }
-any_lawful_input (any.Join t) n q was w l at met = record { came = l.came; gave = l.gave; keeps = input_keeps joins.stands joins.amid joins.takes t l.came l.gave n q was w at met l.keeps }
-any_lawful_input (any.Frame t) n q was w l at met = record { came = l.came; gave = l.gave; keeps = input_keeps frames.stands frames.amid frames.takes t l.came l.gave n q was w at met l.keeps }
-any_lawful_input (any.Combine t) n q was w l at met = record { came = l.came; gave = l.gave; keeps = input_keeps combines.stands combines.amid combines.takes t l.came l.gave n q was w at met l.keeps }
-
 some_is : {X : Type 0} (x y : X) → Some x ≡ Some y → x ≡ y
 some_is x y e = cc
 
@@ -100,25 +90,13 @@ pub out_first : (os : List Output) (r : Router) (q : Ring) → slice_get (map (�
 out_first [] r q at ring = absurd (cc)
 out_first (o ∷ os) r q at ring = subst (λ (w : Router). slice_get (router.rings (router.view w)) 0 ≡ Some q) (some_is o.router r at) ring
 
-pub in_first : (is : List Input) (c : Conveyor) (q : Ring) → slice_get (map (λ (i : Input). i.conveyor) is) 0 ≡ Some c → ring_in (inputs_view is) ≡ Some q → slice_get (conveyor.view c).rings 0 ≡ Some q
-in_first [] c q at ring = absurd (cc)
-in_first (i ∷ is) c q at ring = subst (λ (w : Conveyor). slice_get (conveyor.view w).rings 0 ≡ Some q) (some_is i.conveyor c at) ring
-
 pub out_some : (os : List Output) (q : Ring) → ring_out (outputs_view os) ≡ Some q → 0 < length os
 out_some [] q ring = absurd (cc)
 out_some (o ∷ os) q ring = omega arith
 
-pub in_some : (is : List Input) (q : Ring) → ring_in (inputs_view is) ≡ Some q → 0 < length is
-in_some [] q ring = absurd (cc)
-in_some (i ∷ is) q ring = omega arith
-
 out_set : (os : List Output) (d w : Router) (h : Bool) → router.rings (router.view w) ≡ router.rings (router.view d) → slice_get (map (λ (o : Output). o.router) os) 0 ≡ Some d → ring_out (outputs_view (set os 0 (record { router = w; had = h }))) ≡ ring_out (outputs_view os)
 out_set [] d w h same at = refl
 out_set (o ∷ os) d w h same at = ap (λ (rs : List Ring). slice_get rs 0) same ∙ ap (λ (r : Router). slice_get (router.rings (router.view r)) 0) (sym (some_is o.router d at))
-
-in_set : (is : List Input) (d w : Conveyor) (p : Port) → (conveyor.view w).rings ≡ (conveyor.view d).rings → slice_get (map (λ (i : Input). i.conveyor) is) 0 ≡ Some d → ring_in (inputs_view (set is 0 (record { port = p; conveyor = w }))) ≡ ring_in (inputs_view is)
-in_set [] d w p same at = refl
-in_set (i ∷ is) d w p same at = ap (λ (rs : List Ring). slice_get rs 0) same ∙ ap (λ (c : Conveyor). slice_get (conveyor.view c).rings 0) (sym (some_is i.conveyor d at))
 
 pub any_output_ends : (t : AnyTasklet) (d : ℕ) (was w : Router) → slice_get (map (λ (o : Output). o.router) (outputs_of t)) 0 ≡ Some was → router.Refreshed (router.view was) (router.view w) d → ends_of (any_with_output t 0 was w) ≡ ends_of t
 any_output_ends (any.Stamp t) d was w at met = ap (λ (r : Option Ring). ends_by (ring_in (inputs_view t.inputs.items)) r) (out_set t.outputs.items was w (get_or t.outputs.items 0 (record { router = was; had = false })).had met.same.rings_kept at)
@@ -128,15 +106,6 @@ any_output_ends (any.Flat t) d was w at met = ap (λ (r : Option Ring). ends_by 
 any_output_ends (any.Join t) d was w at met = ap (λ (r : Option Ring). ends_by (ring_in (inputs_view t.inputs.items)) r) (out_set t.outputs.items was w (get_or t.outputs.items 0 (record { router = was; had = false })).had met.same.rings_kept at)
 any_output_ends (any.Frame t) d was w at met = ap (λ (r : Option Ring). ends_by (ring_in (inputs_view t.inputs.items)) r) (out_set t.outputs.items was w (get_or t.outputs.items 0 (record { router = was; had = false })).had met.same.rings_kept at)
 any_output_ends (any.Combine t) d was w at met = ap (λ (r : Option Ring). ends_by (ring_in (inputs_view t.inputs.items)) r) (out_set t.outputs.items was w (get_or t.outputs.items 0 (record { router = was; had = false })).had met.same.rings_kept at)
-
-pub any_input_ends : (t : AnyTasklet) (q : ℕ) (was w : Conveyor) → slice_get (map (λ (i : Input). i.conveyor) (inputs_of t)) 0 ≡ Some was → conveyor.Refreshed (conveyor.view was) (conveyor.view w) q → ends_of (any_with_input t 0 was w) ≡ ends_of t
-any_input_ends (any.Stamp t) q was w at met = ap (λ (r : Option Ring). ends_by r (ring_out (outputs_view t.outputs.items))) (in_set t.inputs.items was w (get_or t.inputs.items 0 (record { port = Stream; conveyor = was })).port met.rings at)
-any_input_ends (any.Map t) q was w at met = ap (λ (r : Option Ring). ends_by r (ring_out (outputs_view t.outputs.items))) (in_set t.inputs.items was w (get_or t.inputs.items 0 (record { port = Stream; conveyor = was })).port met.rings at)
-any_input_ends (any.Filter t) q was w at met = ap (λ (r : Option Ring). ends_by r (ring_out (outputs_view t.outputs.items))) (in_set t.inputs.items was w (get_or t.inputs.items 0 (record { port = Stream; conveyor = was })).port met.rings at)
-any_input_ends (any.Flat t) q was w at met = ap (λ (r : Option Ring). ends_by r (ring_out (outputs_view t.outputs.items))) (in_set t.inputs.items was w (get_or t.inputs.items 0 (record { port = Stream; conveyor = was })).port met.rings at)
-any_input_ends (any.Join t) q was w at met = ap (λ (r : Option Ring). ends_by r (ring_out (outputs_view t.outputs.items))) (in_set t.inputs.items was w (get_or t.inputs.items 0 (record { port = Stream; conveyor = was })).port met.rings at)
-any_input_ends (any.Frame t) q was w at met = ap (λ (r : Option Ring). ends_by r (ring_out (outputs_view t.outputs.items))) (in_set t.inputs.items was w (get_or t.inputs.items 0 (record { port = Stream; conveyor = was })).port met.rings at)
-any_input_ends (any.Combine t) q was w at met = ap (λ (r : Option Ring). ends_by r (ring_out (outputs_view t.outputs.items))) (in_set t.inputs.items was w (get_or t.inputs.items 0 (record { port = Stream; conveyor = was })).port met.rings at)
 
 -- ---- the list
 pub each_get : (xs : List AnyTasklet) (i : ℕ) (x : AnyTasklet) → i < length xs → x ≡ get_or xs i x → Each AnyIsLawful xs → AnyIsLawful x
@@ -191,14 +160,42 @@ last_gives from to (a ∷ (b ∷ [])) x at k = absurd (omega (arith, k.three))
 last_gives from to (a ∷ (b ∷ (c ∷ []))) x at k = ap (λ (t : AnyTasklet). (ends_of t).gives) at ∙ (k.linked.3.3.2 ∙ ap Some k.linked.3.3.3)
 last_gives from to (a ∷ (b ∷ (c ∷ (d ∷ xs)))) x at k = absurd (omega (arith, k.three))
 
--- the ends of a router, as a meeting wants them
-pub rings_some : (ds : List DestView) (q : Ring) → slice_get (map (λ t. t.ring) (map (λ (d : DestView). d.tx) ds)) 0 ≡ Some q → 0 < length ds
-rings_some [] q at = absurd (cc)
-rings_some (d ∷ ds) q at = omega arith
+-- ---- the ends of the first output and the first input, as a meeting wants them and leaves them
+some_in : {X Y : Type 0} (f : X → Y) (xs : List X) (y : Y) → slice_get (map f xs) 0 ≡ Some y → (x : X) × (slice_get xs 0 ≡ Some x) × (f x ≡ y)
+some_in f [] y at = absurd (cc)
+some_in f (x ∷ xs) y at = (x, refl, some_is (f x) y at)
 
-pub ring_first : (ts : List (TxView Item)) (t : TxView Item) (q : Ring) → slice_get ts 0 ≡ Some t → slice_get (map (λ (u : TxView Item). u.ring) ts) 0 ≡ Some q → q ≡ t.ring
-ring_first [] t q at ring = absurd (cc)
-ring_first (u ∷ ts) t q at ring =
-    let same : u ≡ t = cc in
-    let is : u.ring ≡ q = cc in
-    sym is ∙ ap (λ (v : TxView Item). v.ring) same
+pub first_end : (os : List OutputView) (r : Ring) → ring_out os ≡ Some r → (tx : TxView Item) × HasEnd os 0 0 tx × (tx.ring ≡ r)
+first_end [] r at = absurd (cc)
+first_end (o ∷ os) r at =
+    let end = some_in (λ (t : TxView Item). t.ring) (router.txs o.router) r at in
+    (end.0, record { output = o; at = refl; is = end.1 }, end.2)
+
+pub first_queue : (vs : List InputView) (r : Ring) → ring_in vs ≡ Some r → (rx : RxView Item) × HasQueue vs 0 0 rx × (rx.ring ≡ r)
+first_queue [] r at = absurd (cc)
+first_queue (v ∷ vs) r at = (
+  record { ring = r; received = conveyor.received_at v.queues 0; known = conveyor.known_at v.queues 0 },
+  record { input = v; at = refl; is = record { ring = at; received = refl; known = refl } },
+  refl,
+)
+
+ring_out_met : (os ps : List OutputView) (d : ℕ) → OutputMet os ps 0 d → ring_out ps ≡ ring_out os
+ring_out_met [] ps d m = let none = m.at in absurd (cc)
+ring_out_met (o ∷ os) ps d m =
+    ap ring_out m.others ∙ (ap (λ (rs : List Ring). slice_get rs 0) m.met.same.rings_kept ∙ ap (λ (v : OutputView). slice_get (router.rings v.router) 0) (sym (some_is o m.was m.at)))
+
+ring_in_met : (vs ws : List InputView) (q : ℕ) → InputMet vs ws 0 q → ring_in ws ≡ ring_in vs
+ring_in_met [] ws q m = let none = m.at in absurd (cc)
+ring_in_met (v ∷ vs) ws q m =
+    ap ring_in m.others ∙ (ap (λ (rs : List Ring). slice_get rs 0) m.met.rings ∙ ap (λ (u : InputView). slice_get u.queues.rings 0) (sym (some_is v m.was m.at)))
+
+pub giver_ends : (t u : AnyTasklet) (d : ℕ) → AnyGiverMet t u 0 d → ends_of u ≡ ends_of t
+giver_ends t u d m = ap (λ (vs : List InputView). ends_by (ring_in vs) (ring_out (outs u))) m.inputs ∙ ap (ends_by (ring_in (ins t))) (ring_out_met (outs t) (outs u) d m.outputs)
+
+pub taker_ends : (t u : AnyTasklet) (q : ℕ) → AnyTakerMet t u 0 q → ends_of u ≡ ends_of t
+taker_ends t u q m = ap (λ (os : List OutputView). ends_by (ring_in (ins u)) (ring_out os)) m.outputs ∙ ap (λ (r : Option Ring). ends_by r (ring_out (outs t))) (ring_in_met (ins t) (ins u) q m.inputs)
+
+pub lawful_met : (t u : AnyTasklet) → ((came : List Arrival) (gave : List Item) → AnyKeeps t came gave → AnyKeeps u came gave) → AnyIsLawful t → AnyIsLawful u
+lawful_met t u keeps l =
+    let k = any_keeps t l in
+    any_kept u k.0 k.1 (keeps k.0 k.1 k.2)

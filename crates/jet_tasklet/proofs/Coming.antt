@@ -11,9 +11,10 @@ use Rattle.jet_items.specs.Order.{Each}
 use Rattle.jet_items.proofs.Orders.{Each-append, Each-more, EachPair-append}
 use Rattle.jet_boxes.specs.declared.port.Port.{Port}
 use Rattle.jet_boxes.specs.declared.port.Port.TheVariants.{Stream, Build}
+use Rattle.jet_coalescer.specs.declared.coalescer.Coalescer.{Coalescer}
 use Rattle.jet_coalescer.specs.declared.queue.Queue.{Queue}
 use Rattle.jet_coalescer.specs.Low.{HasHeard, known}
-use Rattle.jet_coalescer.specs.Queues.{is_done_at}
+use Rattle.jet_coalescer.specs.Queues.{is_done_at, unknown}
 use Rattle.jet_conveyor.specs.Conveyor.{View, received_at}
 use Rattle.jet_tasklet.specs.declared.arrival.Arrival.{Arrival}
 use Rattle.jet_tasklet.specs.declared.step.Step.{Step}
@@ -83,7 +84,11 @@ port_cases : (p : Port) → (p ≡ Stream) ⊎ (p ≡ Build)
 port_cases Stream = inl refl
 port_cases Build = inr refl
 
-done_known : (n : ℕ) (f : ℕ → List Item) (q : ℕ) → q < n → is_done_at (map known (histories n f)) q ≡ has_ended (f q)
+-- the queue of this number is done
+abbrev done_of : List Queue → ℕ → Bool
+done_of queues q = let queue = get_or queues q unknown in queue.done
+
+done_known : (n : ℕ) (f : ℕ → List Item) (q : ℕ) → q < n → done_of (map known (histories n f)) q ≡ has_ended (f q)
 done_known zero f q lt = absurd (omega (arith, lt))
 done_known (suc n) f zero lt = refl
 done_known (suc n) f (suc q) lt = done_known n (λ k. f (suc k)) q (omega (arith, lt))
@@ -135,7 +140,7 @@ module _ (before after : List InputView) (a : Arrival) (t : Took before after a.
   at_queue : {X : Type 0} (f : View → List X) (d : X) → Each (λ u. length (f u.queues) ≡ length u.queues.rings) before → get_or (of_port f P before) a.queue d ≡ get_or (f t.was.queues) t.within d
   at_queue f d even = of_port_get f P before t.place t.was t.within a.queue d even t.inside t.at to t.is_queue t.queue_is
 
-  module _ (co : List Queue) (came : List Arrival) (h : Came before co came) where
+  module _ (co : Coalescer) (came : List Arrival) (h : Came before co came) where
     even_received : Each (λ u. length u.queues.received ≡ length u.queues.rings) before
     even_received = Each-more IsEven (λ (u : InputView). length u.queues.received ≡ length u.queues.rings) (λ u e. e.received) before h.even
 
@@ -188,16 +193,16 @@ module _ (before after : List InputView) (a : Arrival) (t : Took before after a.
           | inr e ↦ ap (λ (ds : List Bool). get_or ds q true) (other_lists (λ v. v.done) port e) ∙ (h.done_is port q lt ∙ ap has_ended (sym (other_port port q came a e)))
         ]
 
-    pub heard_count : length co ≡ queue_count Stream before
-    heard_count = ap (λ (qs : List Queue). length qs) h.heard_is ∙ (length-map (heard (queue_count Stream before) came) known ∙ length_histories (queue_count Stream before) (λ q. of_queue Stream q came))
+    pub heard_count : length co.queues ≡ queue_count Stream before
+    heard_count = ap (λ (qs : List Queue). length qs) h.heard_is.queues_are ∙ (length-map (heard (queue_count Stream before) came) known ∙ length_histories (queue_count Stream before) (λ q. of_queue Stream q came))
 
     -- the queue may be told of
-    pub may_note : a.port ≡ Stream → (a.queue < length co) × (is_done_at co a.queue ≡ false)
+    pub may_note : a.port ≡ Stream → (a.queue < length co.queues) × (is_done_at co a.queue ≡ false)
     may_note is =
         let lt : a.queue < queue_count Stream before = subst (λ (p : Port). a.queue < queue_count p before) is within_count in
         let still : has_ended (of_queue Stream a.queue came) ≡ false = subst (λ (p : Port). has_ended (of_queue p a.queue came) ≡ false) is was_open in (
           subst (λ (n : ℕ). a.queue < n) (sym heard_count) lt,
-          ap (λ (qs : List Queue). is_done_at qs a.queue) h.heard_is ∙ (done_known (queue_count Stream before) (λ q. of_queue Stream q came) a.queue lt ∙ still),
+          ap (λ (qs : List Queue). done_of qs a.queue) h.heard_is.queues_are ∙ (done_known (queue_count Stream before) (λ q. of_queue Stream q came) a.queue lt ∙ still),
         )
 
     module _ (builds : a.port ≡ Stream → all_done Build before ≡ true) (opens : a.port ≡ Build → all_done Build before ≡ false) where
@@ -228,10 +233,10 @@ module _ (before after : List InputView) (a : Arrival) (t : Took before after a.
             | inr s ↦ Each-append IsBuild came (a ∷ []) (h.builds (opens s)) (s, tt)
           ]
 
-      pub came_push : (new : List Queue) (next : Step) → Notes co new a next → Came after new (came ++ a ∷ [])
+      pub came_push : (new : Coalescer) (next : Step) → Notes co new a next → Came after new (came ++ a ∷ [])
       came_push new next note =
           let n : ℕ = queue_count Stream before in
-          let before_n : HasHeard co (heard (length co) came) = subst (λ (m : ℕ). HasHeard co (heard m came)) (sym heard_count) h.heard_is in
+          let before_n : HasHeard co (heard (length co.queues) came) = subst (λ (m : ℕ). HasHeard co (heard m came)) (sym heard_count) h.heard_is in
           let after_n : HasHeard new (heard n (came ++ a ∷ [])) = subst (λ (m : ℕ). HasHeard new (heard m (came ++ a ∷ []))) heard_count (note.hears came before_n) in
           record {
             even = evens h.even;

@@ -11,8 +11,8 @@ use Rattle.jet_items.specs.Kinds.{as_mark, marks_of}
 use Rattle.jet_boxes.specs.declared.port.Port.{Port}
 use Rattle.jet_boxes.specs.declared.port.Port.TheVariants.{Stream, Build}
 use Rattle.jet_boxes.specs.Entry.{Given, Closed, IsData}
-use Rattle.jet_coalescer.specs.declared.queue.Queue.{Queue}
-use Rattle.jet_coalescer.specs.Low.{History, HasHeard, unheard, known, with_mark, with_done, all_done, low, risen, change_of, raised}
+use Rattle.jet_coalescer.specs.declared.coalescer.Coalescer.{Coalescer}
+use Rattle.jet_coalescer.specs.Low.{History, HasHeard, unheard, with_mark, with_done, all_done, low, risen, change_of, raised}
 use Rattle.jet_tasklet.specs.declared.arrival.Arrival.{Arrival}
 use Rattle.jet_tasklet.specs.declared.step.Step.TheVariants as step
 use Rattle.jet_tasklet.specs.declared.step.Pending.TheVariants as call
@@ -75,6 +75,7 @@ data_quiet xs (item.Side s) d = quiet xs (item.Side s) refl refl
 data_quiet xs (item.Frame f) d = quiet xs (item.Frame f) refl refl
 data_quiet xs (item.Row r) d = quiet xs (item.Row r) refl refl
 data_quiet xs (item.Late l) d = quiet xs (item.Late l) refl refl
+data_quiet xs item.Idle d = quiet xs item.Idle refl refl
 data_quiet xs (item.Mark m) d = absurd d
 data_quiet xs item.Done d = absurd d
 
@@ -143,6 +144,7 @@ called_data port q (item.Side s) d = refl
 called_data port q (item.Frame f) d = refl
 called_data port q (item.Row r) d = refl
 called_data port q (item.Late l) d = refl
+called_data port q item.Idle d = refl
 called_data port q (item.Mark m) d = absurd d
 called_data port q item.Done d = absurd d
 
@@ -152,34 +154,35 @@ data_unless (item.Side s) h k = tt
 data_unless (item.Frame f) h k = tt
 data_unless (item.Row r) h k = tt
 data_unless (item.Late l) h k = tt
+data_unless item.Idle h k = tt
 data_unless (item.Mark m) h k = h m refl
 data_unless item.Done h k = k refl
 
-asks_same : (n : ℕ) (came : List Arrival) (a : Arrival) → heard n (came ++ a ∷ []) ≡ heard n came → asks n came a ≡ called a.port a.queue a.item
+pub asks_same : (n : ℕ) (came : List Arrival) (a : Arrival) → heard n (came ++ a ∷ []) ≡ heard n came → asks n came a ≡ called a.port a.queue a.item
 asks_same n came a same =
     let none : risen (watermark n came) (watermark n (came ++ a ∷ [])) ≡ None = ap (λ (told : List History). risen (watermark n came) (low told)) same ∙ risen_same (watermark n came) in
     ap (λ (o : Option ℤ). called a.port a.queue a.item ++ tells o) none ∙ append-nil (called a.port a.queue a.item)
 
-pub note_data : (co : List Queue) (a : Arrival) → IsData a.item → Notes co co a (step.Make (call.Accept a))
+pub note_data : (co : Coalescer) (a : Arrival) → IsData a.item → Notes co co a (step.Make (call.Accept a))
 note_data co a d = record {
-  hears = λ came h. h ∙ ap (λ (told : List History). map known told) (sym (data_heard (length co) came a d));
-  asked = λ came h. sym (asks_same (length co) came a (data_heard (length co) came a d) ∙ called_data a.port a.queue a.item d);
+  hears = λ came h. subst (HasHeard co) (sym (data_heard (length co.queues) came a d)) h;
+  asked = λ came h. sym (asks_same (length co.queues) came a (data_heard (length co.queues) came a d) ∙ called_data a.port a.queue a.item d);
   goes_on = refl;
 }
 
-pub note_build : (co : List Queue) (a : Arrival) (t : ℤ) → a.port ≡ Build → a.item ≡ item.Mark t → Notes co co a step.Poll
+pub note_build : (co : Coalescer) (a : Arrival) (t : ℤ) → a.port ≡ Build → a.item ≡ item.Mark t → Notes co co a step.Poll
 note_build co a t is what = record {
-  hears = λ came h. h ∙ ap (λ (told : List History). map known told) (sym (build_heard (length co) came a is));
-  asked = λ came h. sym (asks_same (length co) came a (build_heard (length co) came a is) ∙ ap (called a.port a.queue) what);
+  hears = λ came h. subst (HasHeard co) (sym (build_heard (length co.queues) came a is)) h;
+  asked = λ came h. sym (asks_same (length co.queues) came a (build_heard (length co.queues) came a is) ∙ ap (called a.port a.queue) what);
   goes_on = refl;
 }
 
-pub note_mark : (co new : List Queue) (a : Arrival) (t : ℤ) (o : Option ℤ) → a.port ≡ Stream → a.item ≡ item.Mark t → a.queue < length co → ((told : List History) → HasHeard co told → HasHeard new (with_mark told a.queue t)) → ((told : List History) → HasHeard co told → o ≡ risen (low told) (low (with_mark told a.queue t))) → Notes co new a (told_next o)
+pub note_mark : (co new : Coalescer) (a : Arrival) (t : ℤ) (o : Option ℤ) → a.port ≡ Stream → a.item ≡ item.Mark t → a.queue < length co.queues → ((told : List History) → HasHeard co told → HasHeard new (with_mark told a.queue t)) → ((told : List History) → HasHeard co told → o ≡ risen (low told) (low (with_mark told a.queue t))) → Notes co new a (told_next o)
 note_mark co new a t o is what lt hears rises = record {
-  hears = λ came h. subst (HasHeard new) (mark_heard (length co) came a t is what lt) (hears (heard (length co) came) h);
+  hears = λ came h. subst (HasHeard new) (mark_heard (length co.queues) came a t is what lt) (hears (heard (length co.queues) came) h);
   asked = λ came h.
-      owed_told o ∙ (ap tells (rises (heard (length co) came) h ∙ ap (λ (told : List History). risen (watermark (length co) came) (low told)) (mark_heard (length co) came a t is what lt))
-      ∙ ap (λ (x : Item). called a.port a.queue x ++ tells (risen (watermark (length co) came) (watermark (length co) (came ++ a ∷ [])))) (sym what));
+      owed_told o ∙ (ap tells (rises (heard (length co.queues) came) h ∙ ap (λ (told : List History). risen (watermark (length co.queues) came) (low told)) (mark_heard (length co.queues) came a t is what lt))
+      ∙ ap (λ (x : Item). called a.port a.queue x ++ tells (risen (watermark (length co.queues) came) (watermark (length co.queues) (came ++ a ∷ [])))) (sym what));
   goes_on = finale_told o;
 }
 
@@ -200,9 +203,9 @@ all_ended zero f h q lt = absurd (omega (arith, lt))
 all_ended (suc n) f h zero lt = (left (has_ended (f 0)) (all_done (histories n (λ k. f (suc k)))) h).0
 all_ended (suc n) f h (suc q) lt = all_ended n (λ k. f (suc k)) (left (has_ended (f 0)) (all_done (histories n (λ k. f (suc k)))) h).1 q (omega (arith, lt))
 
-note_done_stream : (co new : List Queue) (a : Arrival) (o : Option ℤ) → a.port ≡ Stream → a.item ≡ item.Done → a.queue < length co → EndsQueue co new Stream a.queue o → Notes co new a (step.Make (call.Close a.port a.queue o))
+note_done_stream : (co new : Coalescer) (a : Arrival) (o : Option ℤ) → a.port ≡ Stream → a.item ≡ item.Done → a.queue < length co.queues → EndsQueue co new Stream a.queue o → Notes co new a (step.Make (call.Close a.port a.queue o))
 note_done_stream co new a o is what lt ends =
-    let n : ℕ = length co in record {
+    let n : ℕ = length co.queues in record {
       hears = λ came h. subst (HasHeard new) (done_heard n came a is what lt) (ends (heard n came) h).0;
       asked = λ came h.
           let next : List Arrival = came ++ a ∷ [] in
@@ -213,14 +216,14 @@ note_done_stream co new a o is what lt ends =
       goes_on = refl;
     }
 
-note_done_build : (co new : List Queue) (a : Arrival) (o : Option ℤ) → a.port ≡ Build → a.item ≡ item.Done → EndsQueue co new Build a.queue o → Notes co new a (step.Make (call.Close a.port a.queue o))
+note_done_build : (co new : Coalescer) (a : Arrival) (o : Option ℤ) → a.port ≡ Build → a.item ≡ item.Done → EndsQueue co new Build a.queue o → Notes co new a (step.Make (call.Close a.port a.queue o))
 note_done_build co new a o is what ends =
-    let n : ℕ = length co in record {
-      hears = λ came h. ends.0 ∙ (h ∙ ap (λ (told : List History). map known told) (sym (build_heard n came a is)));
+    let n : ℕ = length co.queues in record {
+      hears = λ came h. subst (λ (c : Coalescer). HasHeard c (heard n (came ++ a ∷ []))) (sym ends.0) (subst (HasHeard co) (sym (build_heard n came a is)) h);
       asked = λ came h. ap (λ (r : Option ℤ). Closed a.port a.queue ∷ tells r) ends.1 ∙ sym (asks_same n came a (build_heard n came a is) ∙ ap (called a.port a.queue) what);
       goes_on = refl;
     }
 
-pub note_done : (port : Port) (co new : List Queue) (a : Arrival) (o : Option ℤ) → a.port ≡ port → a.item ≡ item.Done → (a.port ≡ Stream → a.queue < length co) → EndsQueue co new port a.queue o → Notes co new a (step.Make (call.Close a.port a.queue o))
+pub note_done : (port : Port) (co new : Coalescer) (a : Arrival) (o : Option ℤ) → a.port ≡ port → a.item ≡ item.Done → (a.port ≡ Stream → a.queue < length co.queues) → EndsQueue co new port a.queue o → Notes co new a (step.Make (call.Close a.port a.queue o))
 note_done Stream co new a o is what lt ends = note_done_stream co new a o is what (lt is) ends
 note_done Build co new a o is what lt ends = note_done_build co new a o is what ends

@@ -1,5 +1,5 @@
 -- What a tasklet keeps, step by step.
-use Rattle.std.proofs.Common.{◌≡◌, ℕ, ◌<◌, ◌≤◌, Bool, true, false, List, [], ◌∷◌, ◌++◌, length, refl, sym, ◌∙◌, ap, subst, append-nil, append_assoc, arith, take}
+use Rattle.std.proofs.Common.{◌≡◌, ℕ, ◌<◌, ◌≤◌, Bool, true, false, List, [], ◌∷◌, ◌++◌, length, refl, sym, ◌∙◌, ap, subst, append-nil, append_assoc, arith, length-append, take}
 use Rattle.std.specs.Prelude.{Some, None, Result, Ok, Err}
 use Rattle.jet_items.specs.declared.item.Item.{Item}
 use Rattle.jet_items.specs.declared.item.Item.TheVariants as item
@@ -33,13 +33,29 @@ use Rattle.jet_tasklet.specs.Noting.{Notes}
 use Rattle.std.specs.List.{AllZip}
 use Rattle.jet_tasklet.specs.Turned.{OutputGoes}
 use Rattle.jet_tasklet.specs.Leaving.{Leaves, IsStopped}
-use Rattle.jet_tasklet.specs.Turning.{rank, rank_of}
-use Rattle.jet_tasklet.specs.Keeps.{Came, IsLawful, Goes}
+use Rattle.jet_tasklet.specs.Turning.{rank, rank_of, Worked}
+use Rattle.jet_tasklet.specs.Keeps.{Came, IsLawful, Stays, Goes, entered}
+use mathlib.Core.List.{IsPrefix}
+use Rattle.jet_tasklet.proofs.Lasting.{prefix_refl, prefix_trans}
 use Rattle.jet_tasklet.proofs.Pushing.{entries-push}
 use Rattle.jet_tasklet.proofs.Coming.{came_push, was_open, within_count, count_stays, heard_count}
 use Rattle.jet_tasklet.proofs.Giving.{giving_more}
 use Rattle.jet_tasklet.proofs.Owing.{owed_after}
 use Rattle.jet_tasklet.proofs.Telling.{unfinished, head_may}
+
+-- what had entered the outbox before more did
+entered_more : (gave xs ys : List Item) → IsPrefix xs ys → IsPrefix (gave ++ xs) ((gave ++ []) ++ ys)
+entered_more gave xs ys more = (
+  more.0,
+  append_assoc gave xs more.0 ∙ (ap (λ (w : List Item). gave ++ w) more.1 ∙ ap (λ (w : List Item). w ++ ys) (sym (append-nil gave))),
+)
+
+front_none : (xs ys : List Item) → xs ++ ys ≡ ys → xs ≡ []
+front_none [] ys e = refl
+front_none (x ∷ xs) ys e =
+    let count : length (x ∷ (xs ++ ys)) ≡ length ys = ap (λ (w : List Item). length w) e in
+    let sum = length-append xs ys in
+    absurd (omega (arith, count, sum))
 
 abbrev pub step_after : Result Bool NoMemory → Pending → Step
 step_after (Ok true) c = next_of c
@@ -150,12 +166,13 @@ module _ {P : Type 0} (stands : P → List Entry → List Item → Type 0) (amid
       }
 
   -- items left the outbox
-  pub give_keeps : (t : Tasklet P) (outs : Vec Output Global) (out : Held) (came : List Arrival) (gave : List Item) → Leaves t.outbox.items (outputs_view t.outputs.items) out.items (outputs_view outs.items) → out.room ≡ t.outbox.room → AllZip OutputGoes (outputs_view t.outputs.items) (outputs_view outs.items) → IsStopped out.items (outputs_view outs.items) → Keeps stands amid takes t came gave → (more : List Item) × Keeps stands amid takes (record { processor = t.processor; inputs = t.inputs; outputs = outs; coalescer = t.coalescer; step = t.step; outbox = out }) came (gave ++ more)
+  pub give_keeps : (t : Tasklet P) (outs : Vec Output Global) (out : Held) (came : List Arrival) (gave : List Item) → Leaves t.outbox.items (outputs_view t.outputs.items) out.items (outputs_view outs.items) → out.room ≡ t.outbox.room → AllZip OutputGoes (outputs_view t.outputs.items) (outputs_view outs.items) → IsStopped out.items (outputs_view outs.items) → Keeps stands amid takes t came gave → (more : List Item) × (t.outbox.items ≡ more ++ out.items) × Keeps stands amid takes (record { processor = t.processor; inputs = t.inputs; outputs = outs; coalescer = t.coalescer; step = t.step; outbox = out }) came (gave ++ more)
   give_keeps t outs out came gave leaves room goes stops k =
       let l = leaves gave k.gives_out in
       let es : List Entry = told t.step (queue_count Stream (inputs_view t.inputs.items)) came in
       let same : gave ++ t.outbox.items ≡ (gave ++ l.0) ++ out.items = ap (λ (xs : List Item). gave ++ xs) l.1 ∙ sym (append_assoc gave l.0 out.items) in (
         l.0,
+        l.1,
         record {
           takes_in = k.takes_in;
           gives_out = l.2;
@@ -211,7 +228,7 @@ module _ {P : Type 0} (stands : P → List Entry → List Item → Type 0) (amid
       let stood : stands t.processor (entries n came) given = subst (λ (es : List Entry). stands t.processor es given) (append-nil (entries n came)) w in
       let still : has_ended (of_queue a.port a.queue came) ≡ false = was_open vs ws a took t.coalescer came k.takes_in in
       let counts : queue_count Stream ws ≡ n = count_stays vs ws a took Stream in
-      let count : length t.coalescer ≡ n = heard_count vs ws a took t.coalescer came k.takes_in in
+      let count : length t.coalescer.queues ≡ n = heard_count vs ws a took t.coalescer came k.takes_in in
       let asked : owed next ≡ asks n came a = subst (λ (m : ℕ). owed next ≡ asks m came a) count (note.asked came (subst (λ (m : ℕ). HasHeard t.coalescer (heard m came)) (sym count) k.takes_in.heard_is)) in
       let may : takes t.processor a.port a.queue = k.takes_all a.port a.queue (within_count vs ws a took) in
       record {
@@ -224,30 +241,73 @@ module _ {P : Type 0} (stands : P → List Entry → List Item → Type 0) (amid
         owed = k.owed;
       }
 
+module _ {P : Type 0} (stands : P → List Entry → List Item → Type 0) (amid : P → List Entry → Entry → List Item → Type 0) (takes : P → Port → ℕ → Type 0) where
+  pub stays_refl : (a : Tasklet P) → Stays stands amid takes a a
+  stays_refl a = record { stays = λ came gave k. k }
+
+  pub stays_trans : (a b d : Tasklet P) → Stays stands amid takes a b → Stays stands amid takes b d → Stays stands amid takes a d
+  stays_trans a b d f h = record { stays = λ came gave k. h.stays came gave (f.stays came gave k) }
+
+  -- items entered the outbox
+  pub goes_stays : (a b : Tasklet P) → Stays stands amid takes a b → IsPrefix a.outbox.items b.outbox.items → Goes stands amid takes a b
+  goes_stays a b f more = record { goes = λ came gave k. ([], [], rw (append-nil, append-nil) (f.stays came gave k), entered_more gave a.outbox.items b.outbox.items more) }
+
+  pub worked_goes : (a b : Tasklet P) → Stays stands amid takes a b → Worked a b → Goes stands amid takes a b
+  worked_goes a b f w = goes_stays a b f (w.puts.0, sym w.puts.1)
+
   pub goes_refl : (a : Tasklet P) → Goes stands amid takes a a
-  goes_refl a = record { goes = λ came gave k. ([], [], rw (append-nil, append-nil) k) }
+  goes_refl a = goes_stays a a (stays_refl a) (prefix_refl a.outbox.items)
 
-  pub goes_same : (a b : Tasklet P) → ((came : List Arrival) (gave : List Item) → Keeps stands amid takes a came gave → Keeps stands amid takes b came gave) → Goes stands amid takes a b
-  goes_same a b f = record { goes = λ came gave k. ([], [], rw (append-nil, append-nil) (f came gave k)) }
+  pub goes_came : (a b : Tasklet P) (more : List Arrival) → b.outbox ≡ a.outbox → ((came : List Arrival) (gave : List Item) → Keeps stands amid takes a came gave → Keeps stands amid takes b (came ++ more) gave) → Goes stands amid takes a b
+  goes_came a b more same f = record {
+    goes = λ came gave k. (
+      more,
+      [],
+      subst (λ (xs : List Item). Keeps stands amid takes b (came ++ more) xs) (sym (append-nil gave)) (f came gave k),
+      entered_more gave a.outbox.items b.outbox.items (subst (λ (h : Held). IsPrefix a.outbox.items h.items) (sym same) (prefix_refl a.outbox.items)),
+    );
+  }
 
-  pub goes_came : (a b : Tasklet P) (more : List Arrival) → ((came : List Arrival) (gave : List Item) → Keeps stands amid takes a came gave → Keeps stands amid takes b (came ++ more) gave) → Goes stands amid takes a b
-  goes_came a b more f = record { goes = λ came gave k. (more, [], subst (λ (xs : List Item). Keeps stands amid takes b (came ++ more) xs) (sym (append-nil gave)) (f came gave k)) }
+  pub goes_gave : (a b : Tasklet P) → ((came : List Arrival) (gave : List Item) → Keeps stands amid takes a came gave → (given : List Item) × (a.outbox.items ≡ given ++ b.outbox.items) × Keeps stands amid takes b came (gave ++ given)) → Goes stands amid takes a b
+  goes_gave a b f = record {
+    goes = λ came gave k.
+        let r = f came gave k in (
+          [],
+          r.0,
+          subst (λ (xs : List Arrival). Keeps stands amid takes b xs (gave ++ r.0)) (sym (append-nil came)) r.2,
+          ([], append-nil (gave ++ a.outbox.items) ∙ (ap (λ (xs : List Item). gave ++ xs) r.1 ∙ sym (append_assoc gave r.0 b.outbox.items))),
+        );
+  }
 
-  pub goes_gave : (a b : Tasklet P) → ((came : List Arrival) (gave : List Item) → Keeps stands amid takes a came gave → (given : List Item) × Keeps stands amid takes b came (gave ++ given)) → Goes stands amid takes a b
-  goes_gave a b f = record { goes = λ came gave k. let r = f came gave k in ([], r.0, subst (λ (xs : List Arrival). Keeps stands amid takes b xs (gave ++ r.0)) (sym (append-nil came)) r.1) }
+  -- where the outbox is as it was, nothing was given
+  pub gave_none : (a b : Tasklet P) → ((came : List Arrival) (gave : List Item) → Keeps stands amid takes a came gave → (given : List Item) × (a.outbox.items ≡ given ++ b.outbox.items) × Keeps stands amid takes b came (gave ++ given)) → b.outbox.items ≡ a.outbox.items → Stays stands amid takes a b
+  gave_none a b f same = record {
+    stays = λ came gave k.
+        let r = f came gave k in
+        let none : r.0 ≡ [] = front_none r.0 b.outbox.items (sym r.1 ∙ sym same) in
+        subst (λ (xs : List Item). Keeps stands amid takes b came xs) (ap (λ (xs : List Item). gave ++ xs) none ∙ append-nil gave) r.2;
+  }
 
   pub goes_trans : (a b d : Tasklet P) → Goes stands amid takes a b → Goes stands amid takes b d → Goes stands amid takes a d
   goes_trans a b d f h = record {
     goes = λ came gave k.
         let one = f.goes came gave k in
         let two = h.goes (came ++ one.0) (gave ++ one.1) one.2 in
-        (one.0 ++ two.0, one.1 ++ two.1, subst (λ (xs : List Arrival). Keeps stands amid takes d xs (gave ++ (one.1 ++ two.1))) (append_assoc came one.0 two.0) (subst (λ (xs : List Item). Keeps stands amid takes d ((came ++ one.0) ++ two.0) xs) (append_assoc gave one.1 two.1) two.2));
+        let given : (gave ++ one.1) ++ two.1 ≡ gave ++ (one.1 ++ two.1) = append_assoc gave one.1 two.1 in (
+          one.0 ++ two.0,
+          one.1 ++ two.1,
+          subst (λ (xs : List Arrival). Keeps stands amid takes d xs (gave ++ (one.1 ++ two.1))) (append_assoc came one.0 two.0) (subst (λ (xs : List Item). Keeps stands amid takes d ((came ++ one.0) ++ two.0) xs) given two.2),
+          subst (λ (xs : List Item). IsPrefix (entered gave a) (entered xs d)) given (prefix_trans (entered gave a) (entered (gave ++ one.1) b) (entered ((gave ++ one.1) ++ two.1) d) one.3 two.3),
+        );
   }
 
   pub lawful_goes : (a b : Tasklet P) → IsLawful stands amid takes a → Goes stands amid takes a b → IsLawful stands amid takes b
   lawful_goes a b l f =
       let r = f.goes l.came l.gave l.keeps in
       record { came = l.came ++ r.0; gave = l.gave ++ r.1; keeps = r.2 }
+
+  pub lawful_stays : (a b : Tasklet P) → IsLawful stands amid takes a → Stays stands amid takes a b → IsLawful stands amid takes b
+  lawful_stays a b l f = record { came = l.came; gave = l.gave; keeps = f.stays l.came l.gave l.keeps }
 
 take_front : {X : Type 0} (xs ys : List X) → take (length xs) (xs ++ ys) ≡ xs
 take_front [] ys = refl

@@ -17,7 +17,7 @@ use Rattle.jet_tasklet.specs.Turned.{InputGoes, OutputGoes, Turned}
 pub prefix_refl : {X : Type 0} (xs : List X) → IsPrefix xs xs
 prefix_refl xs = ([], append-nil xs)
 
-prefix_trans : {X : Type 0} (xs ys zs : List X) → IsPrefix xs ys → IsPrefix ys zs → IsPrefix xs zs
+pub prefix_trans : {X : Type 0} (xs ys zs : List X) → IsPrefix xs ys → IsPrefix ys zs → IsPrefix xs zs
 prefix_trans {X} xs ys zs f g = (f.0 ++ g.0, sym (append_assoc xs f.0 g.0) ∙ (ap (λ (w : List X). w ++ g.0) f.1 ∙ g.1))
 
 -- one list of several goes on

@@ -30,6 +30,7 @@ called_last o port q (item.Side s) = refl
 called_last o port q (item.Frame f) = refl
 called_last o port q (item.Row r) = refl
 called_last o port q (item.Late l) = refl
+called_last o port q item.Idle = refl
 called_last o port q (item.Mark m) = refl
 called_last o port q item.Done = refl
 

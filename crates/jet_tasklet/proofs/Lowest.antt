@@ -20,6 +20,7 @@ AtLeast t (item.Side s) = ⊥
 AtLeast t (item.Frame f) = ⊥
 AtLeast t (item.Row r) = ⊥
 AtLeast t (item.Late l) = ⊥
+AtLeast t item.Idle = ⊥
 AtLeast t (item.Mark m) = t ≤ℤ m
 AtLeast t item.Done = ⊥
 
@@ -106,6 +107,7 @@ has_from t a (item.Side s ∷ xs) h = elim (has_from t a xs h) [ inl k ↦ inl k
 has_from t a (item.Frame f ∷ xs) h = elim (has_from t a xs h) [ inl k ↦ inl k | inr k ↦ inr (inr k) ]
 has_from t a (item.Row r ∷ xs) h = elim (has_from t a xs h) [ inl k ↦ inl k | inr k ↦ inr (inr k) ]
 has_from t a (item.Late l ∷ xs) h = elim (has_from t a xs h) [ inl k ↦ inl k | inr k ↦ inr (inr k) ]
+has_from t a (item.Idle ∷ xs) h = elim (has_from t a xs h) [ inl k ↦ inl k | inr k ↦ inr (inr k) ]
 has_from t a (item.Done ∷ xs) h = elim (has_from t a xs h) [ inl k ↦ inl k | inr k ↦ inr (inr k) ]
 has_from t a (item.Mark m ∷ xs) h = elim (has_from t (int_max a m) xs h) [ inl k ↦ split k | inr k ↦ inr (inr k) ]
   where
@@ -119,6 +121,7 @@ has_mark t (item.Side s ∷ xs) h = inr (has_mark t xs h)
 has_mark t (item.Frame f ∷ xs) h = inr (has_mark t xs h)
 has_mark t (item.Row r ∷ xs) h = inr (has_mark t xs h)
 has_mark t (item.Late l ∷ xs) h = inr (has_mark t xs h)
+has_mark t (item.Idle ∷ xs) h = inr (has_mark t xs h)
 has_mark t (item.Done ∷ xs) h = inr (has_mark t xs h)
 has_mark t (item.Mark m ∷ xs) h = elim (has_from t m xs h) [ inl k ↦ inl k | inr k ↦ inr k ]
 
@@ -133,6 +136,7 @@ from_has t a (item.Side s ∷ xs) h = elim h [ inl k ↦ absurd k | inr k ↦ fr
 from_has t a (item.Frame f ∷ xs) h = elim h [ inl k ↦ absurd k | inr k ↦ from_has t a xs k ]
 from_has t a (item.Row r ∷ xs) h = elim h [ inl k ↦ absurd k | inr k ↦ from_has t a xs k ]
 from_has t a (item.Late l ∷ xs) h = elim h [ inl k ↦ absurd k | inr k ↦ from_has t a xs k ]
+from_has t a (item.Idle ∷ xs) h = elim h [ inl k ↦ absurd k | inr k ↦ from_has t a xs k ]
 from_has t a (item.Done ∷ xs) h = elim h [ inl k ↦ absurd k | inr k ↦ from_has t a xs k ]
 from_has t a (item.Mark m ∷ xs) h = elim h [ inl k ↦ here k | inr k ↦ from_has t (int_max a m) xs k ]
   where
@@ -146,6 +150,7 @@ mark_has t (item.Side s ∷ xs) h = elim h [ inl k ↦ absurd k | inr k ↦ mark
 mark_has t (item.Frame f ∷ xs) h = elim h [ inl k ↦ absurd k | inr k ↦ mark_has t xs k ]
 mark_has t (item.Row r ∷ xs) h = elim h [ inl k ↦ absurd k | inr k ↦ mark_has t xs k ]
 mark_has t (item.Late l ∷ xs) h = elim h [ inl k ↦ absurd k | inr k ↦ mark_has t xs k ]
+mark_has t (item.Idle ∷ xs) h = elim h [ inl k ↦ absurd k | inr k ↦ mark_has t xs k ]
 mark_has t (item.Done ∷ xs) h = elim h [ inl k ↦ absurd k | inr k ↦ mark_has t xs k ]
 mark_has t (item.Mark m ∷ xs) h = elim h [ inl k ↦ here k | inr k ↦ from_has t m xs k ]
   where

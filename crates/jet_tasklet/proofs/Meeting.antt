@@ -10,7 +10,7 @@ use Rattle.jet_items.proofs.Orders.{Each-more}
 use Rattle.jet_boxes.specs.declared.port.Port.{Port}
 use Rattle.jet_boxes.specs.declared.port.Port.TheVariants.{Stream, Build}
 use Rattle.jet_boxes.specs.Entry.{Entry}
-use Rattle.jet_coalescer.specs.declared.queue.Queue.{Queue}
+use Rattle.jet_coalescer.specs.declared.coalescer.Coalescer.{Coalescer}
 use Rattle.jet_coalescer.specs.Low.{HasHeard}
 use Rattle.jet_conveyor.specs.declared.conveyor.Conveyor.{Conveyor}
 use Rattle.jet_conveyor.specs.Conveyor as conveyor
@@ -19,7 +19,8 @@ use Rattle.jet_router.specs.declared.router.Router.{Router}
 use Rattle.jet_router.specs.Router as router
 use Rattle.jet_router.specs.Router.{IsInHand, sents, hads}
 use Rattle.jet_router.specs.Dest.{DestView, settled_by, HandIs}
-use Rattle.jet_router.specs.Aim.{key_of, aim_of}
+use Rattle.jet_items.specs.Partition.{item_key}
+use Rattle.jet_router.specs.Aim.{aim_of}
 use Rattle.jet_router.specs.declared.aim.Route.{Route}
 use Rattle.jet_router.specs.Deals.{Deal, FitsAim, Dealt}
 use Rattle.jet_tasklet.specs.declared.arrival.Arrival.{Arrival}
@@ -53,7 +54,7 @@ module _ (vs ws : List InputView) (a : IsAlike vs ws) where
   done_alike : (port : Port) → all_done port ws ≡ all_done port vs
   done_alike port = ap (λ ds. list_all (λ d. d) ds) (a.dones_same port)
 
-  came_alike : (co : List Queue) (came : List Arrival) → Came vs co came → Came ws co came
+  came_alike : (co : Coalescer) (came : List Arrival) → Came vs co came → Came ws co came
   came_alike co came k = record {
     even = a.even k.even;
     few = λ port. let n = count_alike port in let few = k.few port in omega (arith, n, few);
@@ -156,7 +157,7 @@ settled_same (d ∷ ds) (e ∷ es) h s =
 
 module _ (a b : router.View) (d : ℕ) (r : router.Refreshed a b d) where
   aim_same : (x : Item) → router.aim b x ≡ router.aim a x
-  aim_same x = ap (λ (by : Route). aim_of by b.table (key_of x)) r.same.route ∙ ap (λ (t : List ℕ). aim_of a.route t (key_of x)) r.same.table
+  aim_same x = ap (λ (by : Route). aim_of by b.table (item_key x)) r.same.route ∙ ap (λ (t : List ℕ). aim_of a.route t (item_key x)) r.same.table
 
   dests_same : length b.dests ≡ length a.dests
   dests_same = sym (length-map b.dests (λ (e : DestView). e.had)) ∙ (ap (λ xs. length xs) r.had ∙ length-map a.dests (λ (e : DestView). e.had))

@@ -15,10 +15,10 @@ use Rattle.jet_boxes.specs.Entry.{Entry, items_of}
 use Rattle.jet_coalescer.specs.Low.{risen}
 use Rattle.jet_tasklet.specs.declared.arrival.Arrival.{Arrival}
 use Rattle.jet_tasklet.specs.Trace.{same_port, is_from, of_queue, watermark, called, tells, asks, entries}
-use Rattle.jet_tasklet.specs.Merging.{as_data, data_of}
+use Rattle.jet_items.specs.Kinds.{as_data, data_of}
 use Rattle.jet_tasklet.proofs.Pushing.{by_pushing, entries-push, items_of-append}
 
-data_append : (xs ys : List Item) → data_of (xs ++ ys) ≡ data_of xs ++ data_of ys
+pub data_append : (xs ys : List Item) → data_of (xs ++ ys) ≡ data_of xs ++ data_of ys
 data_append xs ys = flat_map-append as_data xs ys
 
 -- ---- of the entries
@@ -28,6 +28,7 @@ called_data port q (item.Side s) = refl
 called_data port q (item.Frame f) = refl
 called_data port q (item.Row r) = refl
 called_data port q (item.Late l) = refl
+called_data port q item.Idle = refl
 called_data port q (item.Mark m) = refl
 called_data port q item.Done = refl
 
@@ -53,7 +54,7 @@ entries_data n came =
     ∙ sym (flat_map-append (λ (b : Arrival). as_data b.item) xs (a ∷ []) ∙ ap (λ (ys : List Item). data_came xs ++ ys) (append-nil (as_data a.item)))))))) came
 
 -- ---- sums over queues
-abbrev sums : ℕ → (ℕ → ℕ) → ℕ
+abbrev pub sums : ℕ → (ℕ → ℕ) → ℕ
 sums zero f = 0
 sums (suc n) f = sums n f + f n
 
@@ -76,40 +77,40 @@ sums_add : (n : ℕ) (f g : ℕ → ℕ) → sums n (λ q. f q + g q) ≡ sums n
 sums_add zero f g = refl
 sums_add (suc n) f g = omega (arith, sums_add n f g)
 
-sums_same : (n : ℕ) (f g : ℕ → ℕ) → ((q : ℕ) → f q ≡ g q) → sums n f ≡ sums n g
+pub sums_same : (n : ℕ) (f g : ℕ → ℕ) → ((q : ℕ) → f q ≡ g q) → sums n f ≡ sums n g
 sums_same zero f g h = refl
 sums_same (suc n) f g h = omega (arith, sums_same n f g h, h n)
 
-sums_zero : (n : ℕ) → sums n (λ q. 0) ≡ 0
+pub sums_zero : (n : ℕ) → sums n (λ q. 0) ≡ 0
 sums_zero zero = refl
 sums_zero (suc n) = omega (arith, sums_zero n)
 
-sum_by-all_of : {X : Type 0} (v : X → ℕ) (n : ℕ) (f : ℕ → List X) → sum_by v (all_of n f) ≡ sums n (λ q. sum_by v (f q))
+pub sum_by-all_of : {X : Type 0} (v : X → ℕ) (n : ℕ) (f : ℕ → List X) → sum_by v (all_of n f) ≡ sums n (λ q. sum_by v (f q))
 sum_by-all_of v zero f = refl
 sum_by-all_of v (suc n) f = sum_by-append v (all_of n f) (f n) ∙ ap (λ m. m + sum_by v (f n)) (sum_by-all_of v n f)
 
-abbrev weight : (Item → ℕ) → List Item → ℕ
+abbrev pub weight : (Item → ℕ) → List Item → ℕ
 weight v xs = sum_by v (data_of xs)
 
 weight_at : (v : Item → ℕ) (b : Bool) (x : Item) (rest : List Item) → weight v (cond b (x ∷ []) [] ++ rest) ≡ cond b (sum_by v (as_data x)) 0 + weight v rest
 weight_at v true x rest = sum_by-append v (as_data x) (data_of rest)
 weight_at v false x rest = sym (zero-add (weight v rest))
 
-abbrev total : (Item → ℕ) → Port → ℕ → List Arrival → ℕ
+abbrev pub total : (Item → ℕ) → Port → ℕ → List Arrival → ℕ
 total v port n came = sums n (λ q. weight v (of_queue port q came))
 
 -- one item more counts for its own port alone
-total_next : (v : Item → ℕ) (port : Port) (n : ℕ) (a : Arrival) (came : List Arrival) → total v port n (a ∷ came) ≡ sums n (λ q. cond (is_from port q a) (sum_by v (as_data a.item)) 0) + total v port n came
+pub total_next : (v : Item → ℕ) (port : Port) (n : ℕ) (a : Arrival) (came : List Arrival) → total v port n (a ∷ came) ≡ sums n (λ q. cond (is_from port q a) (sum_by v (as_data a.item)) 0) + total v port n came
 total_next v port n a came =
     let c : ℕ = sum_by v (as_data a.item) in
     sums_same n (λ q. weight v (of_queue port q (a ∷ came))) (λ q. cond (is_from port q a) c 0 + weight v (of_queue port q came)) (λ q. weight_at v (is_from port q a) a.item (of_queue port q came))
     ∙ sums_add n (λ q. cond (is_from port q a) c 0) (λ q. weight v (of_queue port q came))
 
-own_total : (port : Port) (n c : ℕ) (a : Arrival) → same_port a.port port ≡ true → a.queue < n → sums n (λ q. cond (is_from port q a) c 0) ≡ c
+pub own_total : (port : Port) (n c : ℕ) (a : Arrival) → same_port a.port port ≡ true → a.queue < n → sums n (λ q. cond (is_from port q a) c 0) ≡ c
 own_total port n c a is lt =
     sums_same n (λ q. cond (is_from port q a) c 0) (λ q. cond (a.queue == q) c 0) (λ q. ap (λ (b : Bool). cond (b && (a.queue == q)) c 0) is) ∙ sums_one a.queue c n lt
 
-other_total : (port : Port) (n c : ℕ) (a : Arrival) → same_port a.port port ≡ false → sums n (λ q. cond (is_from port q a) c 0) ≡ 0
+pub other_total : (port : Port) (n c : ℕ) (a : Arrival) → same_port a.port port ≡ false → sums n (λ q. cond (is_from port q a) c 0) ≡ 0
 other_total port n c a is =
     sums_same n (λ q. cond (is_from port q a) c 0) (λ q. 0) (λ q. ap (λ (b : Bool). cond (b && (a.queue == q)) c 0) is) ∙ sums_zero n
 

@@ -21,6 +21,7 @@ sound_free behind (item.Side s) y d = tt
 sound_free behind (item.Frame f) y d = tt
 sound_free behind (item.Row r) y d = tt
 sound_free behind (item.Late l) y d = tt
+sound_free behind item.Idle y d = tt
 sound_free behind (item.Mark m) y d = absurd d
 sound_free behind item.Done y d = tt
 
@@ -36,6 +37,7 @@ sound_less behind t m (item.Side s) h k = tt
 sound_less behind t m (item.Frame f) h k = tt
 sound_less behind t m (item.Row r) h k = tt
 sound_less behind t m (item.Late l) h k = tt
+sound_less behind t m item.Idle h k = tt
 sound_less behind t m (item.Mark v) h k = tt
 sound_less behind t m item.Done h k = tt
 
@@ -48,6 +50,7 @@ closed_free (item.Side s) y d = tt
 closed_free (item.Frame f) y d = tt
 closed_free (item.Row r) y d = tt
 closed_free (item.Late l) y d = tt
+closed_free item.Idle y d = tt
 closed_free (item.Mark m) y d = absurd d
 closed_free item.Done y d = absurd d
 
@@ -57,6 +60,7 @@ closed_less t m (item.Side s) h k = tt
 closed_less t m (item.Frame f) h k = le_lt t m f.end h k
 closed_less t m (item.Row r) h k = le_lt t m r.end h k
 closed_less t m (item.Late l) h k = tt
+closed_less t m item.Idle h k = tt
 closed_less t m (item.Mark v) h k = le_lt t m v h k
 closed_less t m item.Done h k = tt
 

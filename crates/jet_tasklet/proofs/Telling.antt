@@ -22,12 +22,13 @@ each_asks P marks n came a h = Each-append P (called a.port a.queue a.item) (tel
     go None = tt
     go (Some t) = (marks t, tt)
 
-called_unfinished : (port : Port) (q : ℕ) (x : Item) → Each NotFinish (called port q x)
+pub called_unfinished : (port : Port) (q : ℕ) (x : Item) → Each NotFinish (called port q x)
 called_unfinished port q (item.Event e) = (tt, tt)
 called_unfinished port q (item.Side s) = (tt, tt)
 called_unfinished port q (item.Frame f) = (tt, tt)
 called_unfinished port q (item.Row r) = (tt, tt)
 called_unfinished port q (item.Late l) = (tt, tt)
+called_unfinished port q item.Idle = (tt, tt)
 called_unfinished port q (item.Mark m) = tt
 called_unfinished port q item.Done = (tt, tt)
 
@@ -42,6 +43,7 @@ called_unclosed port q p r (item.Side s) h = (tt, tt)
 called_unclosed port q p r (item.Frame f) h = (tt, tt)
 called_unclosed port q p r (item.Row w) h = (tt, tt)
 called_unclosed port q p r (item.Late l) h = (tt, tt)
+called_unclosed port q p r item.Idle h = (tt, tt)
 called_unclosed port q p r (item.Mark m) h = tt
 called_unclosed port q p r item.Done h = (h refl, tt)
 
@@ -68,6 +70,7 @@ head_of takes taken port q (item.Side d) o e rest may going still is = let h : e
 head_of takes taken port q (item.Frame d) o e rest may going still is = let h : e ≡ Given port q (item.Frame d) = cc in subst (MayCome takes taken) (sym h) (going, may, tt, still)
 head_of takes taken port q (item.Row d) o e rest may going still is = let h : e ≡ Given port q (item.Row d) = cc in subst (MayCome takes taken) (sym h) (going, may, tt, still)
 head_of takes taken port q (item.Late d) o e rest may going still is = let h : e ≡ Given port q (item.Late d) = cc in subst (MayCome takes taken) (sym h) (going, may, tt, still)
+head_of takes taken port q item.Idle o e rest may going still is = let h : e ≡ Given port q item.Idle = cc in subst (MayCome takes taken) (sym h) (going, may, tt, still)
 head_of takes taken port q (item.Mark m) None e rest may going still is = absurd (cc)
 head_of takes taken port q (item.Mark m) (Some t) e rest may going still is = let h : e ≡ Told t = cc in subst (MayCome takes taken) (sym h) going
 head_of takes taken port q item.Done o e rest may going still is = let h : e ≡ Closed port q = cc in subst (MayCome takes taken) (sym h) (going, may, still)

@@ -82,7 +82,7 @@ abbrev IsBuild : Arrival → Type 0
 IsBuild a = a.port ≡ Build
 
 -- data stands with a port, and a mark that was told bounds the stream queues, of which one had given something
-abbrev Holds : ℕ → List Arrival → Entry → Type 0
+abbrev pub Holds : ℕ → List Arrival → Entry → Type 0
 Holds n came (Given port q x) = IsData x
 Holds n came (Told t) = Bounds n t (lists_of came) × (Each IsBuild came → ⊥)
 Holds n came (Closed port q) = Unit {0}
@@ -100,6 +100,7 @@ called_holds n came port q (item.Side s) = (tt, tt)
 called_holds n came port q (item.Frame f) = (tt, tt)
 called_holds n came port q (item.Row r) = (tt, tt)
 called_holds n came port q (item.Late l) = (tt, tt)
+called_holds n came port q item.Idle = (tt, tt)
 called_holds n came port q (item.Mark m) = tt
 called_holds n came port q item.Done = (tt, tt)
 
@@ -178,6 +179,7 @@ mark_pair R o t (item.Side s) y h k = absurd h
 mark_pair R o t (item.Frame f) y h k = absurd h
 mark_pair R o t (item.Row r) y h k = absurd h
 mark_pair R o t (item.Late l) y h k = absurd h
+mark_pair R o t item.Idle y h k = absurd h
 mark_pair R o t (item.Mark m) y h k = o.less t m y h k
 mark_pair R o t item.Done y h k = absurd h
 
@@ -231,6 +233,7 @@ called_each P port q (item.Side s) h = (h, tt)
 called_each P port q (item.Frame f) h = (h, tt)
 called_each P port q (item.Row r) h = (h, tt)
 called_each P port q (item.Late l) h = (h, tt)
+called_each P port q item.Idle h = (h, tt)
 called_each P port q (item.Mark m) h = tt
 called_each P port q item.Done h = tt
 
@@ -255,6 +258,7 @@ called_pairs R o port q (item.Side s) ys h = (every R o (item.Side s) tt ys, h)
 called_pairs R o port q (item.Frame f) ys h = (every R o (item.Frame f) tt ys, h)
 called_pairs R o port q (item.Row r) ys h = (every R o (item.Row r) tt ys, h)
 called_pairs R o port q (item.Late l) ys h = (every R o (item.Late l) tt ys, h)
+called_pairs R o port q item.Idle ys h = (every R o item.Idle tt ys, h)
 called_pairs R o port q (item.Mark m) ys h = h
 called_pairs R o port q item.Done ys h = h
 

@@ -1,5 +1,5 @@
 -- How a turn goes, and why it may have nothing to do.
-use Rattle.std.proofs.Common.{◌≡◌, ◌<◌, ◌≤◌, ◌||◌, Bool, true, false, List, [], ◌∷◌, ◌++◌, length, inl, inr, refl, sym, ◌∙◌, ap, subst, append-nil, append_assoc, arith, length-append}
+use Rattle.std.proofs.Common.{◌≡◌, ℕ, ◌<◌, ◌≤◌, ◌||◌, Bool, true, false, List, [], ◌∷◌, ◌++◌, length, inl, inr, refl, sym, ◌∙◌, ap, subst, append-nil, append_assoc, arith, length-append}
 use Rattle.std.specs.Prelude.{Some, None, Result, ◌⊎◌}
 use Rattle.std.specs.declared.vec.Vec.{Vec}
 use Rattle.std.specs.declared.alloc.Global.{Global}
@@ -22,7 +22,9 @@ use Rattle.jet_tasklet.specs.Leaving.{IsStopped}
 use Rattle.jet_tasklet.specs.Steps.{entry_of, next_of, finale}
 use Rattle.jet_tasklet.specs.Taking.{NoneToTake}
 use Rattle.jet_tasklet.specs.Turning.{is_free, HasEnded, Worked, TakesNone, BeginsFinish, IsFull, IsOwed, IsBlocked, IsStarved, all_ended, Moves, IsStill}
-use Rattle.jet_tasklet.proofs.Keeping.{finale_next}
+use Rattle.jet_tasklet.specs.Keeps.{Stays, Goes}
+use Rattle.jet_boxes.specs.declared.port.Port.{Port}
+use Rattle.jet_tasklet.proofs.Keeping.{finale_next, stays_trans, goes_stays, worked_goes, goes_trans}
 
 -- lists that go on
 pub longer : (xs ys put : List Item) → ys ≡ xs ++ put → length xs ≤ length ys
@@ -265,3 +267,19 @@ module _ {P : Type 0} where
           omega (arith, some, sum, count)
     ]
   ]
+
+module _ {P : Type 0} (stands : P → List Entry → List Item → Type 0) (amid : P → List Entry → Entry → List Item → Type 0) (takes : P → Port → ℕ → Type 0) where
+  -- up to the begin of the finish
+  pub begun_goes : (o a b c : Tasklet P) → Goes stands amid takes o a → Goes stands amid takes a b → Stays stands amid takes b c → BeginsFinish b c → Goes stands amid takes o c
+  begun_goes o a b c gave took kept begun =
+      let items : c.outbox.items ≡ b.outbox.items = ap (λ (h : Held). h.items) (box_kept b c begun).0 in
+      let last : Goes stands amid takes b c = goes_stays stands amid takes b c kept ([], append-nil b.outbox.items ∙ sym items) in
+      goes_trans stands amid takes o b c (goes_trans stands amid takes o a b gave took) last
+
+  -- the whole turn
+  pub turn_goes : (o a b c d : Tasklet P) → Goes stands amid takes o a → Goes stands amid takes a b → Stays stands amid takes b c → BeginsFinish b c → Stays stands amid takes c d → Worked c d → Goes stands amid takes o d
+  turn_goes o a b c d gave took kept begun stays worked =
+      goes_trans stands amid takes o c d (begun_goes o a b c gave took kept begun) (worked_goes stands amid takes c d stays worked)
+
+  pub turn_stays : (o a b c d : Tasklet P) → Stays stands amid takes o a → Stays stands amid takes a b → Stays stands amid takes b c → Stays stands amid takes c d → Stays stands amid takes o d
+  turn_stays o a b c d f h i j = stays_trans stands amid takes o c d (stays_trans stands amid takes o b c (stays_trans stands amid takes o a b f h) i) j

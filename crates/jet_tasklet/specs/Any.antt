@@ -7,7 +7,7 @@ use Rattle.jet_tasklet.specs.declared.arrival.Arrival.{Arrival}
 use Rattle.jet_tasklet.specs.declared.any.AnyTasklet.{AnyTasklet}
 use Rattle.jet_tasklet.specs.Inputs.{inputs_view, received_count}
 use Rattle.jet_tasklet.specs.Kinds.{OfKind, OfKinds, changed, inputs_of}
-use Rattle.jet_tasklet.specs.Keeps.{Keeps, IsLawful, Goes}
+use Rattle.jet_tasklet.specs.Keeps.{Keeps, IsLawful, Stays, Goes}
 use Rattle.jet_tasklet.specs.Lending.{with_input, with_output}
 use Rattle.jet_tasklet.specs.Turned.{Turned}
 use Rattle.jet_tasklet.specs.Turning.{HasEnded, IsBlocked, IsStarved, Moves, IsStill}
@@ -18,6 +18,10 @@ AnyKeeps t came gave = OfKind (λ P k u. Keeps k.stands k.amid k.takes u came ga
 
 abbrev pub AnyIsLawful : AnyTasklet → Type 0
 AnyIsLawful t = OfKind (λ P k u. IsLawful k.stands k.amid k.takes u) t
+
+-- nothing came and nothing was given
+abbrev pub AnyStays : AnyTasklet → AnyTasklet → Type 0
+AnyStays t u = OfKinds (λ P k a b. Stays k.stands k.amid k.takes a b) t u
 
 abbrev pub AnyGoes : AnyTasklet → AnyTasklet → Type 0
 AnyGoes t u = OfKinds (λ P k a b. Goes k.stands k.amid k.takes a b) t u

@@ -1,11 +1,12 @@
 -- What a tasklet keeps, whatever its processor.
 use Rattle.std.specs.Prelude.{◌≡◌, ℕ, ◌<◌, ◌≤◌, ◌^◌, true, false, List, [], ◌++◌, length, get_or}
+use mathlib.Core.List.{IsPrefix}
 use Rattle.jet_items.specs.declared.item.Item.{Item}
 use Rattle.jet_items.specs.Order.{Each}
 use Rattle.jet_boxes.specs.declared.port.Port.{Port}
 use Rattle.jet_boxes.specs.declared.port.Port.TheVariants.{Stream, Build}
 use Rattle.jet_boxes.specs.Entry.{Entry}
-use Rattle.jet_coalescer.specs.declared.queue.Queue.{Queue}
+use Rattle.jet_coalescer.specs.declared.coalescer.Coalescer.{Coalescer}
 use Rattle.jet_coalescer.specs.Low.{HasHeard}
 use Rattle.jet_router.specs.Router as router
 use Rattle.jet_tasklet.specs.declared.arrival.Arrival.{Arrival}
@@ -30,7 +31,7 @@ pub record IsEven (v : InputView) : Type 0 where
 -- these items, each with its port and queue, came in this order: what each queue received is what came of it, the queue
 -- is done where that holds Done, the coalescer heard it, and nothing of a stream queue came before every build queue was
 -- done
-pub record Came (inputs : List InputView) (coalescer : List Queue) (came : List Arrival) : Type 0 where
+pub record Came (inputs : List InputView) (coalescer : Coalescer) (came : List Arrival) : Type 0 where
   pub even : Each IsEven inputs
   pub few : (port : Port) → queue_count port inputs < 2 ^ 32
   pub received_is : (port : Port) (q : ℕ) → q < queue_count port inputs → get_or (received port inputs) q [] ≡ of_queue port q came
@@ -70,9 +71,18 @@ pub record IsLawful {P : Type 0} (stands : P → List Entry → List Item → Ty
   pub gave : List Item
   pub keeps : Keeps stands amid takes t came gave
 
--- whatever came and was given before, more may have come and been given since, and the tasklet keeps the same
+-- all that ever entered the outbox: what was given from it, and what waits in it
+abbrev pub entered : {P : Type 0} → List Item → Tasklet P → List Item
+entered gave t = gave ++ t.outbox.items
+
+-- whatever came and was given before, nothing came and nothing was given since, and the tasklet keeps the same
+pub record Stays {P : Type 0} (stands : P → List Entry → List Item → Type 0) (amid : P → List Entry → Entry → List Item → Type 0) (takes : P → Port → ℕ → Type 0) (a b : Tasklet P) : Type 0 where
+  pub stays : (came : List Arrival) (gave : List Item) → Keeps stands amid takes a came gave → Keeps stands amid takes b came gave
+
+-- whatever came and was given before, more may have come and been given since, and the tasklet keeps the same: all that
+-- had entered its outbox was given or still waits there, in its order
 pub record Goes {P : Type 0} (stands : P → List Entry → List Item → Type 0) (amid : P → List Entry → Entry → List Item → Type 0) (takes : P → Port → ℕ → Type 0) (a b : Tasklet P) : Type 0 where
-  pub goes : (came : List Arrival) (gave : List Item) → Keeps stands amid takes a came gave → (more : List Arrival) × (given : List Item) × Keeps stands amid takes b (came ++ more) (gave ++ given)
+  pub goes : (came : List Arrival) (gave : List Item) → Keeps stands amid takes a came gave → (more : List Arrival) × (given : List Item) × Keeps stands amid takes b (came ++ more) (gave ++ given) × IsPrefix (entered gave a) (entered (gave ++ given) b)
 
 -- nothing was received of these queues, and none is done
 pub record IsUnread (v : InputView) : Type 0 where

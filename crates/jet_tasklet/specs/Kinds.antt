@@ -23,35 +23,126 @@ use Rattle.jet_tasklet.specs.declared.any.AnyTasklet.TheVariants as any
 use Rattle.jet_tasklet.specs.declared.input.Input.{Input}
 use Rattle.jet_tasklet.specs.declared.output.Output.{Output}
 
--- what a kind of processor says of itself: what it stands for between two calls and in the middle of one, from which queues it takes, when two of it have the same settings, and whether it never wants memory
+-- what a kind of processor says of itself: what it stands for between two calls and in the middle of one, from which queues it takes, when two of it have the same settings, whether it never wants memory,
+-- what its data and its marks follow from, and what it asks for so that what it gives is in order
 pub record Kind (P : Type 0) : Type 1 where
   pub stands : P → List Entry → List Item → Type 0
   pub amid : P → List Entry → Entry → List Item → Type 0
   pub takes : P → Port → ℕ → Type 0
   pub same : P → P → Type 0
   pub frugal : Bool
+  pub bag : P → List Entry → List Item → Type 0
+  pub bag_amid : P → List Entry → Entry → List Item → Type 0
+  pub marks : P → List Entry → List Item → Type 0
+  pub marks_amid : P → List Entry → Entry → List Item → Type 0
+  pub sound_if : P → (ℕ → ℕ → Bool) → List Entry → Type 0
+  pub closed_if : P → List Entry → Type 0
 
 -- the seven kinds
 abbrev pub stamps : Kind Stamp
-stamps = record { stands = (stamp.ghosts).stands; amid = (stamp.ghosts).amid; takes = (stamp.ghosts).takes; same = (stamp.ghosts).same; frugal = (stamp.ghosts).frugal }
+stamps = record {
+  stands = (stamp.ghosts).stands;
+  amid = (stamp.ghosts).amid;
+  takes = (stamp.ghosts).takes;
+  same = (stamp.ghosts).same;
+  frugal = (stamp.ghosts).frugal;
+  bag = (stamp.ghosts).bag;
+  bag_amid = (stamp.ghosts).bag_amid;
+  marks = (stamp.ghosts).marks;
+  marks_amid = (stamp.ghosts).marks_amid;
+  sound_if = (stamp.ghosts).sound_if;
+  closed_if = (stamp.ghosts).closed_if;
+}
 
 abbrev pub maps : Kind MapP
-maps = record { stands = (map.ghosts).stands; amid = (map.ghosts).amid; takes = (map.ghosts).takes; same = (map.ghosts).same; frugal = (map.ghosts).frugal }
+maps = record {
+  stands = (map.ghosts).stands;
+  amid = (map.ghosts).amid;
+  takes = (map.ghosts).takes;
+  same = (map.ghosts).same;
+  frugal = (map.ghosts).frugal;
+  bag = (map.ghosts).bag;
+  bag_amid = (map.ghosts).bag_amid;
+  marks = (map.ghosts).marks;
+  marks_amid = (map.ghosts).marks_amid;
+  sound_if = (map.ghosts).sound_if;
+  closed_if = (map.ghosts).closed_if;
+}
 
 abbrev pub filters : Kind FilterP
-filters = record { stands = (filter.ghosts).stands; amid = (filter.ghosts).amid; takes = (filter.ghosts).takes; same = (filter.ghosts).same; frugal = (filter.ghosts).frugal }
+filters = record {
+  stands = (filter.ghosts).stands;
+  amid = (filter.ghosts).amid;
+  takes = (filter.ghosts).takes;
+  same = (filter.ghosts).same;
+  frugal = (filter.ghosts).frugal;
+  bag = (filter.ghosts).bag;
+  bag_amid = (filter.ghosts).bag_amid;
+  marks = (filter.ghosts).marks;
+  marks_amid = (filter.ghosts).marks_amid;
+  sound_if = (filter.ghosts).sound_if;
+  closed_if = (filter.ghosts).closed_if;
+}
 
 abbrev pub flats : Kind FlatP
-flats = record { stands = (flat.ghosts).stands; amid = (flat.ghosts).amid; takes = (flat.ghosts).takes; same = (flat.ghosts).same; frugal = (flat.ghosts).frugal }
+flats = record {
+  stands = (flat.ghosts).stands;
+  amid = (flat.ghosts).amid;
+  takes = (flat.ghosts).takes;
+  same = (flat.ghosts).same;
+  frugal = (flat.ghosts).frugal;
+  bag = (flat.ghosts).bag;
+  bag_amid = (flat.ghosts).bag_amid;
+  marks = (flat.ghosts).marks;
+  marks_amid = (flat.ghosts).marks_amid;
+  sound_if = (flat.ghosts).sound_if;
+  closed_if = (flat.ghosts).closed_if;
+}
 
 abbrev pub joins : Kind JoinP
-joins = record { stands = (join.ghosts).stands; amid = (join.ghosts).amid; takes = (join.ghosts).takes; same = (join.ghosts).same; frugal = (join.ghosts).frugal }
+joins = record {
+  stands = (join.ghosts).stands;
+  amid = (join.ghosts).amid;
+  takes = (join.ghosts).takes;
+  same = (join.ghosts).same;
+  frugal = (join.ghosts).frugal;
+  bag = (join.ghosts).bag;
+  bag_amid = (join.ghosts).bag_amid;
+  marks = (join.ghosts).marks;
+  marks_amid = (join.ghosts).marks_amid;
+  sound_if = (join.ghosts).sound_if;
+  closed_if = (join.ghosts).closed_if;
+}
 
 abbrev pub frames : Kind FrameP
-frames = record { stands = (frame.ghosts).stands; amid = (frame.ghosts).amid; takes = (frame.ghosts).takes; same = (frame.ghosts).same; frugal = (frame.ghosts).frugal }
+frames = record {
+  stands = (frame.ghosts).stands;
+  amid = (frame.ghosts).amid;
+  takes = (frame.ghosts).takes;
+  same = (frame.ghosts).same;
+  frugal = (frame.ghosts).frugal;
+  bag = (frame.ghosts).bag;
+  bag_amid = (frame.ghosts).bag_amid;
+  marks = (frame.ghosts).marks;
+  marks_amid = (frame.ghosts).marks_amid;
+  sound_if = (frame.ghosts).sound_if;
+  closed_if = (frame.ghosts).closed_if;
+}
 
 abbrev pub combines : Kind CombineP
-combines = record { stands = (combine.ghosts).stands; amid = (combine.ghosts).amid; takes = (combine.ghosts).takes; same = (combine.ghosts).same; frugal = (combine.ghosts).frugal }
+combines = record {
+  stands = (combine.ghosts).stands;
+  amid = (combine.ghosts).amid;
+  takes = (combine.ghosts).takes;
+  same = (combine.ghosts).same;
+  frugal = (combine.ghosts).frugal;
+  bag = (combine.ghosts).bag;
+  bag_amid = (combine.ghosts).bag_amid;
+  marks = (combine.ghosts).marks;
+  marks_amid = (combine.ghosts).marks_amid;
+  sound_if = (combine.ghosts).sound_if;
+  closed_if = (combine.ghosts).closed_if;
+}
 
 -- what is said of tasklets of every kind, said of one
 abbrev pub OfKind : ((P : Type 0) → Kind P → Tasklet P → Type 0) → AnyTasklet → Type 0

@@ -1,12 +1,18 @@
 pub mod Any
-pub mod Ending
+pub mod AnyOrder
+pub mod AnyOver
+pub mod Over
 pub mod Chain
+pub mod DoneLast
 pub mod InOrder
 pub mod Inputs
+pub mod JoinWaits
 pub mod Keeps
 pub mod Kinds
 pub mod Leaving
 pub mod Lending
+pub mod MarksGiven
+pub mod Meeting
 pub mod Merging
 pub mod Noting
 pub mod Outputs
@@ -16,4 +22,7 @@ pub mod Taking
 pub mod Trace
 pub mod Turned
 pub mod Turning
+pub mod Turns
+pub mod Views
+pub mod Wanting
 pub mod StampInOrder

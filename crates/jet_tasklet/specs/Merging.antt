@@ -4,22 +4,10 @@ use Rattle.std.specs.List.{flat_map}
 use Rattle.jet_items.specs.declared.item.Item.{Item}
 use Rattle.jet_items.specs.declared.item.Item.TheVariants as item
 use Rattle.jet_items.specs.Bag.{all_of}
+use Rattle.jet_items.specs.Kinds.{data_of}
 use Rattle.jet_boxes.specs.declared.port.Port.{Port}
 use Rattle.jet_boxes.specs.Entry.{Entry, Given, Told, Closed, Finish}
 use Rattle.jet_tasklet.specs.Inputs.{InputView, received, queue_count}
-
--- data alone: neither a mark nor the end
-abbrev pub as_data : Item → List Item
-as_data (item.Event e) = item.Event e ∷ []
-as_data (item.Side s) = item.Side s ∷ []
-as_data (item.Frame f) = item.Frame f ∷ []
-as_data (item.Row r) = item.Row r ∷ []
-as_data (item.Late l) = item.Late l ∷ []
-as_data (item.Mark m) = []
-as_data item.Done = []
-
-abbrev pub data_of : List Item → List Item
-data_of xs = flat_map as_data xs
 
 -- the data that the queues of a port received, queue by queue
 abbrev pub data_received : Port → List InputView → List Item

@@ -4,7 +4,7 @@ use Rattle.jet_boxes.specs.declared.port.Port.{Port}
 use Rattle.jet_boxes.specs.declared.port.Port.TheVariants.{Stream, Build}
 use Rattle.jet_coalescer.specs.declared.change.Change.{Change}
 use Rattle.jet_coalescer.specs.declared.change.Change.TheVariants as change
-use Rattle.jet_coalescer.specs.declared.queue.Queue.{Queue}
+use Rattle.jet_coalescer.specs.declared.coalescer.Coalescer.{Coalescer}
 use Rattle.jet_coalescer.specs.Low.{History, HasHeard, with_done, all_done, low, change_of}
 use Rattle.jet_tasklet.specs.declared.arrival.Arrival.{Arrival}
 use Rattle.jet_tasklet.specs.declared.step.Step.{Step}
@@ -18,12 +18,12 @@ raised_to (change.Raised t) = Some t
 raised_to change.AllDone = None
 
 -- a coalescer that had heard of some queues has heard the Done of one, and answers the new watermark where it rose and a queue is left
-abbrev pub EndsQueue : List Queue → List Queue → Port → ℕ → Option ℤ → Type 0
+abbrev pub EndsQueue : Coalescer → Coalescer → Port → ℕ → Option ℤ → Type 0
 EndsQueue before after Stream q raised = (told : List History) → HasHeard before told → HasHeard after (with_done told q) × (raised ≡ raised_to (change_of (all_done (with_done told q)) (low told) (low (with_done told q))))
 EndsQueue before after Build q raised = (after ≡ before) × (raised ≡ None)
 
 -- a coalescer that had heard all that came has heard the item too, and what the tasklet does next is what the item asks
-pub record Notes (before after : List Queue) (a : Arrival) (next : Step) : Type 0 where
-  pub hears : (came : List Arrival) → HasHeard before (heard (length before) came) → HasHeard after (heard (length before) (came ++ a ∷ []))
-  pub asked : (came : List Arrival) → HasHeard before (heard (length before) came) → owed next ≡ asks (length before) came a
+pub record Notes (before after : Coalescer) (a : Arrival) (next : Step) : Type 0 where
+  pub hears : (came : List Arrival) → HasHeard before (heard (length before.queues) came) → HasHeard after (heard (length before.queues) (came ++ a ∷ []))
+  pub asked : (came : List Arrival) → HasHeard before (heard (length before.queues) came) → owed next ≡ asks (length before.queues) came a
   pub goes_on : finale next ≡ []

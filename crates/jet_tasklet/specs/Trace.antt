@@ -52,6 +52,7 @@ called port q (item.Side s) = Given port q (item.Side s) ∷ []
 called port q (item.Frame f) = Given port q (item.Frame f) ∷ []
 called port q (item.Row r) = Given port q (item.Row r) ∷ []
 called port q (item.Late l) = Given port q (item.Late l) ∷ []
+called port q item.Idle = Given port q item.Idle ∷ []
 called port q (item.Mark m) = []
 called port q item.Done = Closed port q ∷ []
 

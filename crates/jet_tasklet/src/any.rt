@@ -14,6 +14,9 @@ use jet_stages::{FilterP, FlatP, MapP, Stamp};
 use jet_window::{CombineP, FrameP};
 
 /// A tasklet of any of the kinds of processors.
+///
+/// It may cross to another thread. The prover of a crate above is told so where it asks: the answer there is
+/// `search (sendable, any_send) depth 20`, with `any_send` of this crate's `proofs/Crossing.antt`.
 #[derive(Drop)]
 pub enum AnyTasklet {
     Stamp(Tasklet<Stamp>),
@@ -28,13 +31,15 @@ pub enum AnyTasklet {
 impl AnyTasklet {
     ghost use Rattle.jet_tasklet.specs.contracts.any.AnyTasklet.{the_row};
     ghost use Rattle.jet_tasklet.specs.Kinds.{inputs_of, outputs_of};
+    ghost use Rattle.jet_tasklet.specs.Views.{step_of};
+    ghost use Rattle.jet_tasklet.specs.Wanting.{IsWanting};
     ghost use Rattle.jet_items.specs.declared.item.Item.{Item};
     ghost use Rattle.jet_conveyor.specs.Conveyor as conveyors;
     ghost use Rattle.jet_conveyor.specs.declared.conveyor.Conveyor.{Conveyor};
     ghost use Rattle.jet_router.specs.Router as routers;
     ghost use Rattle.jet_router.specs.declared.router.Router.{Router};
     ghost use Rattle.jet_tasklet.specs.declared.arrival.Arrival.{Arrival};
-    ghost use Rattle.jet_tasklet.specs.Any.{AnyKeeps, AnyIsLawful, AnyGoes, AnyTurned, AnyFew, AnyMayWant, AnyHasEnded, AnyIsBlocked, AnyIsStarved, AnyMoves, AnyIsStill, any_with_input, any_with_output};
+    ghost use Rattle.jet_tasklet.specs.Any.{AnyKeeps, AnyIsLawful, AnyStays, AnyGoes, AnyTurned, AnyFew, AnyMayWant, AnyHasEnded, AnyIsBlocked, AnyIsStarved, AnyMoves, AnyIsStill, any_with_input, any_with_output};
 
     /// A turn of the tasklet, as its kind has it.
     pub fn turn(&mut self) -> Result<Progress, NoMemory>
@@ -43,9 +48,11 @@ impl AnyTasklet {
         ensures turned { AnyTurned self.old self.new }
         ensures few { AnyFew self.old self.new }
         ensures wants { OnErr result (AnyMayWant self.old) }
+        ensures pending { OnErr result (IsWanting (step_of self.new)) }
         ensures done { result ≡ Ok progress.Done → AnyHasEnded self.old × (self.new ≡ self.old) }
         ensures after { AnyHasEnded self.old → result ≡ Ok progress.Done }
         ensures moved { result ≡ Ok progress.Moved → AnyMoves self.old self.new }
+        ensures same { result ≡ Ok progress.Idle → AnyStays self.old self.new }
         ensures still { result ≡ Ok progress.Idle → AnyIsStill self.old self.new }
         ensures idle { result ≡ Ok progress.Idle → AnyIsBlocked self.new ⊎ AnyIsStarved self.new }
     {

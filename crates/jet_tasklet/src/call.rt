@@ -1,6 +1,8 @@
 // The call that is pending.
+ghost use Rattle.std.specs.Prelude.{OnErr};
 ghost use Rattle.jet_boxes.specs.Calls.{Call, MayCall};
 ghost use Rattle.jet_tasklet.specs.Steps.{entry_of};
+ghost use Rattle.jet_tasklet.specs.Wanting.{MayWant};
 
 use crate::step::Pending;
 use jet_boxes::{Outbox, Processor};
@@ -13,7 +15,8 @@ pub(crate) fn call<P: Processor>(
     out: &mut Outbox,
 ) -> Result<bool, NoMemory>
     requires { MayCall P.amid (P.takes processor.old) processor.old (entry_of pending.now) }
-    ensures { Call P.stands P.amid P.same P.frugal processor.old (entry_of pending.now) out.old result processor.new out.new }
+    ensures made { Call P.stands P.amid P.same P.frugal processor.old (entry_of pending.now) out.old result processor.new out.new }
+    ensures wants { OnErr result (MayWant pending.now) }
 {
     match pending {
         Pending::Accept(arrival) => {

@@ -15,7 +15,8 @@ impl<P: Processor> Tasklet<P> {
     ghost use Rattle.jet_items.specs.Bag.{SameBag};
     ghost use Rattle.jet_coalescer.specs.Low.{low};
     ghost use Rattle.jet_tasklet.specs.Trace.{histories};
-    ghost use Rattle.jet_tasklet.specs.Merging.{data_of, data_received, last_told};
+    ghost use Rattle.jet_items.specs.Kinds.{data_of};
+    ghost use Rattle.jet_tasklet.specs.Merging.{data_received, last_told};
     ghost use Rattle.jet_tasklet.specs.Keeps.{Keeps, told, IsLawful, Goes, IsUnread, IsUnsent};
     ghost use Rattle.jet_router.specs.Router.{view};
     ghost use Rattle.jet_items.specs.Order.{Each};
@@ -27,7 +28,6 @@ impl<P: Processor> Tasklet<P> {
     ghost use Rattle.jet_tasklet.specs.Outputs.{outputs_view, sent_count, Says};
     ghost use Rattle.jet_tasklet.specs.Sending.{EachReceived, EachSent, EachFront};
     ghost use Rattle.jet_tasklet.specs.Turning.{is_free, rank, HasEnded, Worked, TakesNone, BeginsFinish, IsFull, IsBlocked, IsStarved, Moves, IsStill};
-    ghost use Rattle.jet_tasklet.specs.Ending.{Brings, Ends, Makes, Passes};
     ghost use Rattle.jet_tasklet.specs.Leaving.{IsStopped};
     ghost use Rattle.jet_tasklet.specs.Lending.{with_input, with_output};
     ghost use Rattle.jet_conveyor.specs.Conveyor as conveyor;
@@ -61,7 +61,9 @@ impl<P: Processor> Tasklet<P> {
         ensures closed { (came : List Arrival) → (gave : List Item) → Keeps P.stands P.amid P.takes self.now came gave
             → EachFront (P.closed_if self.now.processor) (told self.now.step (queue_count Stream (inputs_view self.now.inputs.items)) came)
             → EachSent ClosedItems (outputs_view self.now.outputs.items) }
-    {}
+    {
+        self.enters_in_order();
+    }
 
     /// The data that the processor was told is that which all queues received, whatever the order in which it came, and
     /// while a stream queue is not done the last mark told or pending is the least of the greatest marks of those queues.
@@ -83,17 +85,5 @@ impl<P: Processor> Tasklet<P> {
         ensures output { (came : List Arrival) → (gave : List Item) → (n d : ℕ) → (was w : Router) → Keeps P.stands P.amid P.takes self.now came gave
             → slice_get (map (λ o. o.router) self.now.outputs.items) n ≡ Some was → router.Refreshed (router.view was) (router.view w) d
             → Keeps P.stands P.amid P.takes (with_output self.now n was w) came gave }
-    {}
-
-    /// Once a tasklet has ended, its processor has taken the data of all queues, each output was given what the bag law
-    /// says of that, whatever the order in which it came, and Done behind it. So where each queue brought what flows to
-    /// it, what leaves is made of all that flows in: one step of an induction over a DAG.
-    pub fn ends_with_its_flow(&self)
-        ensures ends { (came : List Arrival) → (gave : List Item) → Keeps P.stands P.amid P.takes self.now came gave → HasEnded self.now
-            → Ends (P.bag self.now.processor) (inputs_view self.now.inputs.items) (outputs_view self.now.outputs.items) }
-        ensures flows { (came : List Arrival) → (gave : List Item) → (seen made : List Item → List Item) → (flow : Port → ℕ → List Item)
-            → Keeps P.stands P.amid P.takes self.now came gave → HasEnded self.now
-            → Makes (P.bag self.now.processor) seen made → Brings flow (inputs_view self.now.inputs.items)
-            → Passes seen made flow (inputs_view self.now.inputs.items) (outputs_view self.now.outputs.items) }
     {}
 }

@@ -9,26 +9,35 @@
 #![tactic(auto)]
 
 mod any;
+mod any_ends;
+mod any_rests;
 mod arrival;
 mod call;
+mod ends;
 mod input;
 mod inputs;
 mod laws;
 mod lend;
+mod meetings;
 mod note;
 mod output;
 mod outputs;
 mod progress;
+mod rests;
 mod stamp_laws;
 mod step;
 mod tasklet;
+mod turns;
 
 pub use any::AnyTasklet;
 pub use arrival::Arrival;
 pub use input::Input;
+pub use meetings::{meet, meet_sink, meet_source};
 pub use progress::Progress;
+pub use rests::{joins_wait, stamps_mark_fronts, stamps_rest_at_the_low};
 pub use stamp_laws::stamps_send_in_order;
 pub use tasklet::Tasklet;
+pub use turns::{any_keeps_its_laws, any_turns_in_a_row, turns_in_a_row};
 
 #[cfg(test)]
 mod tests;

@@ -34,7 +34,7 @@ fn raised_to(change: Change) -> Option<Mark>
 
 // Takes note of a Done, and answers the watermark that it raised.
 fn end(coalescer: &mut Coalescer, port: Port, queue: u32) -> Option<Mark>
-    requires { port ≡ Stream → (queue < length coalescer.old) × (is_done_at coalescer.old queue ≡ false) }
+    requires { port ≡ Stream → (queue < length coalescer.old.queues) × (is_done_at coalescer.old queue ≡ false) }
     ensures { EndsQueue coalescer.old coalescer.new port queue result }
 {
     match port {
@@ -45,7 +45,7 @@ fn end(coalescer: &mut Coalescer, port: Port, queue: u32) -> Option<Mark>
 
 /// Takes note of an item that came, and answers the call that it asks for.
 pub(crate) fn note(coalescer: &mut Coalescer, arrival: Arrival) -> Step
-    requires { arrival.port ≡ Stream → (arrival.queue < length coalescer.old) × (is_done_at coalescer.old arrival.queue ≡ false) }
+    requires { arrival.port ≡ Stream → (arrival.queue < length coalescer.old.queues) × (is_done_at coalescer.old arrival.queue ≡ false) }
     ensures { Notes coalescer.old coalescer.new arrival result }
 {
     let Arrival { port, queue, item } = arrival;

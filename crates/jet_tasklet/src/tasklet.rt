@@ -37,8 +37,9 @@ impl<P: Processor> Tasklet<P> {
     ghost use Rattle.jet_items.specs.Bag.{SameBag};
     ghost use Rattle.jet_coalescer.specs.Low.{low};
     ghost use Rattle.jet_tasklet.specs.Trace.{histories};
-    ghost use Rattle.jet_tasklet.specs.Merging.{data_of, data_received, last_told};
-    ghost use Rattle.jet_tasklet.specs.Keeps.{Keeps, told, IsLawful, Goes, IsUnread, IsUnsent};
+    ghost use Rattle.jet_items.specs.Kinds.{data_of};
+    ghost use Rattle.jet_tasklet.specs.Merging.{data_received, last_told};
+    ghost use Rattle.jet_tasklet.specs.Keeps.{Keeps, told, IsLawful, Stays, Goes, IsUnread, IsUnsent};
     ghost use Rattle.jet_router.specs.Router.{view};
     ghost use Rattle.jet_items.specs.Order.{Each};
     ghost use Rattle.jet_boxes.specs.declared.port.Port.{Port};
@@ -51,6 +52,7 @@ impl<P: Processor> Tasklet<P> {
     ghost use Rattle.jet_tasklet.specs.Turning.{is_free, rank, HasEnded, Worked, TakesNone, BeginsFinish, IsFull, IsBlocked, IsStarved, Moves, IsStill};
     ghost use Rattle.jet_tasklet.specs.Leaving.{IsStopped};
     ghost use Rattle.jet_tasklet.specs.Turned.{Turned};
+    ghost use Rattle.jet_tasklet.specs.Wanting.{IsWanting};
 
     /// A tasklet that has taken nothing, with an outbox for `room` items. The processor, the conveyors and the routers are
     /// new, and there is at least one router.
@@ -100,6 +102,7 @@ impl<P: Processor> Tasklet<P> {
         ensures took { Says result (received_count (inputs_view self.old.inputs.items)) (received_count (inputs_view self.new.inputs.items)) }
         ensures few { received_count (inputs_view self.new.inputs.items) ≤ received_count (inputs_view self.old.inputs.items) + 1 }
         ensures outputs { self.new.outputs ≡ self.old.outputs }
+        ensures same { result ≡ false → Stays P.stands P.amid P.takes self.old self.new }
         ensures none { result ≡ false → Worked self.old self.new × (self.new.step ≡ step.Poll) × NoneToTake (inputs_view self.new.inputs.items) }
     {
         match poll(&mut self.inputs) {
@@ -115,9 +118,10 @@ impl<P: Processor> Tasklet<P> {
     fn make(&mut self, pending: &Pending) -> Result<bool, NoMemory>
         requires pending { self.old.step ≡ step.Make pending.now }
         requires keeps { IsLawful P.stands P.amid P.takes self.old }
-        ensures keeps { Goes P.stands P.amid P.takes self.old self.new }
+        ensures keeps { Stays P.stands P.amid P.takes self.old self.new }
         ensures turned { Turned P.same self.old self.new }
         ensures wants { OnErr result (P.frugal ≡ false) }
+        ensures pending { OnErr result (IsWanting self.new.step) }
         ensures next { result ≡ Ok true → self.new.step ≡ next_of pending.now }
         ensures worked { Worked self.old self.new }
         ensures full { result ≡ Ok false → IsFull self.new.outbox }
@@ -132,7 +136,7 @@ impl<P: Processor> Tasklet<P> {
     // Puts Done, where there is room.
     fn put_done(&mut self) -> bool
         requires finished { self.old.step ≡ step.End }
-        ensures keeps { Goes P.stands P.amid P.takes self.old self.new }
+        ensures keeps { Stays P.stands P.amid P.takes self.old self.new }
         ensures turned { Turned P.same self.old self.new }
         ensures ended { result ≡ true → self.new.step ≡ step.Ended }
         ensures worked { Worked self.old self.new }
@@ -149,9 +153,10 @@ impl<P: Processor> Tasklet<P> {
     fn advance(&mut self) -> Result<bool, NoMemory>
         requires pending { is_free self.old.step ≡ false }
         requires keeps { IsLawful P.stands P.amid P.takes self.old }
-        ensures keeps { Goes P.stands P.amid P.takes self.old self.new }
+        ensures keeps { Stays P.stands P.amid P.takes self.old self.new }
         ensures turned { Turned P.same self.old self.new }
         ensures wants { OnErr result (P.frugal ≡ false) }
+        ensures pending { OnErr result (IsWanting self.new.step) }
         ensures smaller { result ≡ Ok true → rank self.new.step < rank self.old.step }
         ensures worked { Worked self.old self.new }
         ensures full { result ≡ Ok false → IsFull self.new.outbox }
@@ -167,9 +172,10 @@ impl<P: Processor> Tasklet<P> {
     // Makes the calls that are pending, and answers whether none is left.
     fn work(&mut self) -> Result<bool, NoMemory>
         requires keeps { IsLawful P.stands P.amid P.takes self.old }
-        ensures keeps { Goes P.stands P.amid P.takes self.old self.new }
+        ensures keeps { Stays P.stands P.amid P.takes self.old self.new }
         ensures turned { Turned P.same self.old self.new }
         ensures wants { OnErr result (P.frugal ≡ false) }
+        ensures pending { OnErr result (IsWanting self.new.step) }
         ensures free { result ≡ Ok true → is_free self.new.step ≡ true }
         ensures worked { Worked self.old self.new }
         ensures full { result ≡ Ok false → IsFull self.new.outbox }
@@ -188,9 +194,11 @@ impl<P: Processor> Tasklet<P> {
         ensures keeps { Goes P.stands P.amid P.takes self.old self.new }
         ensures turned { Turned P.same self.old self.new }
         ensures wants { OnErr result (P.frugal ≡ false) }
+        ensures pending { OnErr result (IsWanting self.new.step) }
         ensures took { IfOk result (λ took. Says took (received_count (inputs_view self.old.inputs.items)) (received_count (inputs_view self.new.inputs.items))) }
         ensures few { received_count (inputs_view self.new.inputs.items) ≤ received_count (inputs_view self.old.inputs.items) + 1 }
         ensures outputs { self.new.outputs ≡ self.old.outputs }
+        ensures same { result ≡ Ok false → Stays P.stands P.amid P.takes self.old self.new }
         ensures none { result ≡ Ok false → Worked self.old self.new × TakesNone self.new }
     {
         if !self.work()? {
@@ -208,9 +216,11 @@ impl<P: Processor> Tasklet<P> {
         ensures keeps { Goes P.stands P.amid P.takes self.old self.new }
         ensures turned { Turned P.same self.old self.new }
         ensures wants { OnErr result (P.frugal ≡ false) }
+        ensures pending { OnErr result (IsWanting self.new.step) }
         ensures took { IfOk result (λ took. Says took (received_count (inputs_view self.old.inputs.items)) (received_count (inputs_view self.new.inputs.items))) }
         ensures few { received_count (inputs_view self.new.inputs.items) ≤ received_count (inputs_view self.old.inputs.items) + 64 }
         ensures outputs { self.new.outputs ≡ self.old.outputs }
+        ensures same { result ≡ Ok false → Stays P.stands P.amid P.takes self.old self.new }
         ensures none { result ≡ Ok false → Worked self.old self.new × TakesNone self.new }
     {
         if !self.take_next()? {
@@ -233,7 +243,7 @@ impl<P: Processor> Tasklet<P> {
 
     // Begins the finish once every queue is done.
     fn begin_finish(&mut self)
-        ensures keeps { Goes P.stands P.amid P.takes self.old self.new }
+        ensures keeps { Stays P.stands P.amid P.takes self.old self.new }
         ensures turned { Turned P.same self.old self.new }
         ensures begins { BeginsFinish self.old self.new }
     {
@@ -255,6 +265,7 @@ impl<P: Processor> Tasklet<P> {
         ensures room { self.new.outbox.room ≡ self.old.outbox.room }
         ensures inputs { self.new.inputs ≡ self.old.inputs }
         ensures pushed { Says result (sent_count (outputs_view self.old.outputs.items)) (sent_count (outputs_view self.new.outputs.items)) }
+        ensures same { result ≡ false → Stays P.stands P.amid P.takes self.old self.new }
         ensures stays { result ≡ false → self.new.outbox.items ≡ self.old.outbox.items }
     {
         give_out(&mut self.outputs, &mut self.outbox)
@@ -278,9 +289,11 @@ impl<P: Processor> Tasklet<P> {
         ensures turned { Turned P.same self.old self.new }
         ensures few { received_count (inputs_view self.new.inputs.items) ≤ received_count (inputs_view self.old.inputs.items) + 64 }
         ensures wants { OnErr result (P.frugal ≡ false) }
+        ensures pending { OnErr result (IsWanting self.new.step) }
         ensures done { result ≡ Ok progress.Done → HasEnded self.old × (self.new ≡ self.old) }
         ensures after { HasEnded self.old → result ≡ Ok progress.Done }
         ensures moved { result ≡ Ok progress.Moved → Moves self.old self.new }
+        ensures same { result ≡ Ok progress.Idle → Stays P.stands P.amid P.takes self.old self.new }
         ensures still { result ≡ Ok progress.Idle → IsStill self.old self.new }
         ensures idle { result ≡ Ok progress.Idle → IsBlocked self.new ⊎ IsStarved self.new }
     {

@@ -92,8 +92,7 @@ fn meet(giver: &mut AnyTasklet, taker: &mut AnyTasklet)
     ensures gives { ends_of giver.new ≡ ends_of giver.old }
     ensures takes { ends_of taker.new ≡ ends_of taker.old }
 {
-    let tx = giver.output(0).tx(0);
-    let _ = taker.input(0).refresh_queue(0, tx);
+    crate::meet(giver, 0, 0, taker, 0, 0);
 }
 
 // The ends of the ring between the first of a chain and its source meet.
@@ -104,7 +103,7 @@ fn meet_source(source: &mut Tx<Item>, taker: &mut AnyTasklet)
     ensures ring { tx_ring source.new ≡ tx_ring source.old }
     ensures takes { ends_of taker.new ≡ ends_of taker.old }
 {
-    let _ = taker.input(0).refresh_queue(0, source);
+    crate::meet_source(source, taker, 0, 0);
 }
 
 // The ends of the ring between the last of a chain and its sink meet.

@@ -8,7 +8,7 @@ use Rattle.jet_tasklet.proofs.note.note.Goals as goal
 pub returns-in-Stream : goal.returns-in-Stream
 returns-in-Stream c =
     let a : Arrival = c.args.arrival in
-    let lt : a.queue < length c.args.coalescer.now = let r = c.requires c.in-Stream.is in r.0 in
+    let lt : a.queue < length c.args.coalescer.now.queues = let r = c.requires c.in-Stream.is in r.0 in
     subst (λ (next : Step). Notes c.args.coalescer.now c.observe.new.self a next) (sym c.tell.ensures)
     (note_mark c.args.coalescer.now c.observe.new.self a c.in-Mark.mark c.observe.result c.in-Stream.is c.in-Mark.is lt c.observe.ensures.heard c.observe.ensures.risen)
 

@@ -1,31 +1,18 @@
-use Rattle.std.proofs.Common.{◌≡◌, ◌∙◌, ap}
-use Rattle.std.specs.Prelude.{Some}
-use Rattle.jet_ring.specs.Ring.{Ring, tx_ring, tx_view}
-use Rattle.jet_router.specs.Router as router
-use Rattle.jet_tasklet.specs.Kinds.{inputs_of, outputs_of}
-use Rattle.jet_tasklet.proofs.Chaining.{out_first, in_first, rings_some, ring_first, any_lawful_output, any_lawful_input, any_output_ends, any_input_ends}
+use Rattle.std.proofs.Common.{◌≡◌, ◌∙◌, sym}
+use Rattle.jet_tasklet.specs.Views.{ins, outs}
+use Rattle.jet_tasklet.proofs.Chaining.{first_end, first_queue, giver_ends, taker_ends, lawful_met}
 use Rattle.jet_tasklet.proofs.tests.meet.Goals as goal
 
-pub tx-tx-requires : goal.tx-tx-requires
-tx-tx-requires c =
-    let at = out_first (outputs_of c.args.giver.now) c.output.result.now c.requires.joined.0 c.output.ensures.value c.requires.joined.1 in
-    rings_some (router.view c.output.result.now).dests c.requires.joined.0 at
+pub meet-requires : goal.meet-requires
+meet-requires c =
+    let tx = first_end (outs c.args.giver.now) c.requires.joined.0 c.requires.joined.1 in
+    let rx = first_queue (ins c.args.taker.now) c.requires.joined.0 c.requires.joined.2 in
+    record { joined = (tx.0, rx.0, tx.1, rx.1, rx.2 ∙ sym tx.2) }
 
-pub refresh_queue-requires : goal.refresh_queue-requires
-refresh_queue-requires c =
-    let q : Ring = c.requires.joined.0 in
-    let at = out_first (outputs_of c.args.giver.now) c.output.result.now q c.output.ensures.value c.requires.joined.1 in
-    let is : q ≡ tx_ring c.tx-tx.result.now = ring_first (router.txs (router.view c.output.result.now)) (tx_view c.tx-tx.result.now) q c.tx-tx.ensures.value at in
-    in_first (inputs_of c.args.taker.now) c.input.result.now q c.input.ensures.value c.requires.joined.2 ∙ ap Some is
-
-pub returns-clause-giver : goal.returns-clause-giver
-returns-clause-giver c = any_lawful_output c.args.giver.now 0 0 c.output.result.now _ c.requires.giver c.output.ensures.value (c.tx-tx.ensures.meets c.refresh_queue.new.tx c.refresh_queue.ensures.ring c.refresh_queue.ensures.sent)
-
-pub returns-clause-taker : goal.returns-clause-taker
-returns-clause-taker c = any_lawful_input c.args.taker.now 0 0 c.input.result.now c.refresh_queue.new.self c.requires.taker c.input.ensures.value c.refresh_queue.ensures.view
-
-pub returns-clause-gives : goal.returns-clause-gives
-returns-clause-gives c = any_output_ends c.args.giver.now 0 c.output.result.now _ c.output.ensures.value (c.tx-tx.ensures.meets c.refresh_queue.new.tx c.refresh_queue.ensures.ring c.refresh_queue.ensures.sent)
-
-pub returns-clause-takes : goal.returns-clause-takes
-returns-clause-takes c = any_input_ends c.args.taker.now 0 c.input.result.now c.refresh_queue.new.self c.input.ensures.value c.refresh_queue.ensures.view
+pub returns : goal.returns
+returns c = record {
+  giver = lawful_met c.args.giver.now c.meet.new.giver c.meet.ensures.giver.keeps c.requires.giver;
+  taker = lawful_met c.args.taker.now c.meet.new.taker c.meet.ensures.taker.keeps c.requires.taker;
+  gives = giver_ends c.args.giver.now c.meet.new.giver 0 c.meet.ensures.giver;
+  takes = taker_ends c.args.taker.now c.meet.new.taker 0 c.meet.ensures.taker;
+}

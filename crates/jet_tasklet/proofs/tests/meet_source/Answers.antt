@@ -1,13 +1,14 @@
 use Rattle.jet_ring.specs.Ring.{tx_ring}
-use Rattle.jet_tasklet.specs.Kinds.{inputs_of}
-use Rattle.jet_tasklet.proofs.Chaining.{in_first, any_lawful_input, any_input_ends}
+use Rattle.jet_tasklet.specs.Views.{ins}
+use Rattle.jet_tasklet.proofs.Chaining.{first_queue, taker_ends, lawful_met}
 use Rattle.jet_tasklet.proofs.tests.meet_source.Goals as goal
 
-pub refresh_queue-requires : goal.refresh_queue-requires
-refresh_queue-requires c = in_first (inputs_of c.args.taker.now) c.input.result.now (tx_ring c.args.source.now) c.input.ensures.value c.requires.joined
+pub meet_source-requires : goal.meet_source-requires
+meet_source-requires c = record { joined = first_queue (ins c.args.taker.now) (tx_ring c.args.source.now) c.requires.joined }
 
-pub returns-clause-taker : goal.returns-clause-taker
-returns-clause-taker c = any_lawful_input c.args.taker.now 0 0 c.input.result.now c.refresh_queue.new.self c.requires.taker c.input.ensures.value c.refresh_queue.ensures.view
-
-pub returns-clause-takes : goal.returns-clause-takes
-returns-clause-takes c = any_input_ends c.args.taker.now 0 c.input.result.now c.refresh_queue.new.self c.input.ensures.value c.refresh_queue.ensures.view
+pub returns : goal.returns
+returns c = record {
+  taker = lawful_met c.args.taker.now c.meet_source.new.taker c.meet_source.ensures.taker.keeps c.requires.taker;
+  ring = c.meet_source.ensures.ring;
+  takes = taker_ends c.args.taker.now c.meet_source.new.taker 0 c.meet_source.ensures.taker;
+}

@@ -1,7 +1,7 @@
 use Rattle.std.proofs.lemmas.Bool.{eqb-false}
 use Rattle.std.proofs.Common.{◌≡◌, ℕ, zero, suc, ◌+◌, ◌<◌, ◌≤◌, Bool, true, false, not, nat_eq, refl, sym, ◌∙◌, ap, subst, inl, inr, arith, eqb-true}
 use Rattle.jet_router.specs.Router.{View, view, sent_count, free_count}
-use Rattle.jet_router.specs.Aim.{key_of}
+use Rattle.jet_items.specs.Partition.{item_key}
 use Rattle.jet_router.proofs.Counting.{sent_and_free, free_falls}
 use Rattle.jet_tasklet.specs.Outputs.{Says}
 use Rattle.jet_tasklet.proofs.Giving.{given_next, is_all, not_all}
@@ -56,7 +56,7 @@ returns-clause-waits c =
       | in_default w ↦ w.self-is ∙ sym (not_all c.give.result w.in_default.not-All)
     ] in
     let says = returns-clause-pushed c in λ w.
-    elim (given_waits a b c.give.result a.route a.table (key_of x) x c.args.self.now.had c.give.ensures.same.rings_kept c.give.ensures.gives w) [
+    elim (given_waits a b c.give.result a.route a.table (item_key x) x c.args.self.now.had c.give.ensures.same.rings_kept c.give.ensures.gives w) [
       | inl lt ↦ inl (says_true (not (nat_eq c.free.result c.free-free.result)) (sent_count a) (sent_count b) says lt)
       | inr still ↦ inr (subst (λ (h : Bool). Waits (record { router = b; had = h })) (sym is) still)
     ]

@@ -9,7 +9,7 @@ use Rattle.jet_tasklet.specs.declared.arrival.Arrival.{Arrival}
 use Rattle.jet_tasklet.specs.Trace.{of_queue}
 use Rattle.jet_tasklet.specs.Inputs.{InputView, inputs_view, queue_count}
 use Rattle.jet_tasklet.specs.Keeps.{Came}
-use Rattle.jet_coalescer.specs.declared.queue.Queue.{Queue}
+use Rattle.jet_coalescer.specs.declared.coalescer.Coalescer.{Coalescer}
 use Rattle.jet_tasklet.specs.Sending.{EachReceived}
 use Rattle.jet_tasklet.proofs.Sounding.{told_sound, told_closed}
 use Rattle.jet_tasklet.proofs.Sending.{told_fronts, none_outside}
@@ -22,7 +22,7 @@ within (suc a) zero = inr (omega arith)
 within (suc a) (suc b) = elim (within a b) [ inl h ↦ inl (omega (arith, h)) | inr h ↦ inr (omega (arith, h)) ]
 
 -- what holds of what was received holds of what came, of each number of a queue
-of_all : (Q : List Item → Type 0) → Q [] → (vs : List InputView) (co : List Queue) (came : List Arrival) → Came vs co came → EachReceived Q vs → (port : Port) (q : ℕ) → Q (of_queue port q came)
+of_all : (Q : List Item → Type 0) → Q [] → (vs : List InputView) (co : Coalescer) (came : List Arrival) → Came vs co came → EachReceived Q vs → (port : Port) (q : ℕ) → Q (of_queue port q came)
 of_all Q none vs co came h all port q =
     elim (within q (queue_count port vs)) [
       | inl lt ↦ subst Q (h.received_is port q lt) (all port q lt)

@@ -6,20 +6,20 @@ use Rattle.jet_tasklet.proofs.Keeping.{goes_refl, goes_trans, lawful_goes}
 use Rattle.jet_tasklet.proofs.tasklet.Tasklet.take_items.Goals as goal
 
 pub items-init : goal.items-init
-items-init g c = record { keeps = goes_refl g.P.Processor.stands g.P.Processor.amid g.P.Processor.takes g.met.P.Processor.begins c.take_next.new.self; turned = turned_still g.P.Processor.same c.take_next.new.self c.take_next.new.self (g.met.P.Processor.same_refl c.take_next.new.self.processor) refl refl refl; took = omega arith; few = omega arith; outputs = refl }
+items-init g c = record { keeps = goes_refl g.P.Processor.stands g.P.Processor.amid g.P.Processor.takes c.take_next.new.self; turned = turned_still g.P.Processor.same c.take_next.new.self c.take_next.new.self (g.met.P.Processor.same_refl c.take_next.new.self.processor) refl refl refl; took = omega arith; few = omega arith; outputs = refl }
 
 pub take_next-requires-in-items : goal.take_next-requires-in-items
-take_next-requires-in-items g c = record { keeps = lawful_goes g.P.Processor.stands g.P.Processor.amid g.P.Processor.takes g.met.P.Processor.begins c.args.self.now c.items.self c.requires.keeps (goes_trans g.P.Processor.stands g.P.Processor.amid g.P.Processor.takes g.met.P.Processor.begins c.args.self.now c.take_next.new.self c.items.self c.take_next.ensures.keeps c.items.invariant.keeps) }
+take_next-requires-in-items g c = record { keeps = lawful_goes g.P.Processor.stands g.P.Processor.amid g.P.Processor.takes c.args.self.now c.items.self c.requires.keeps (goes_trans g.P.Processor.stands g.P.Processor.amid g.P.Processor.takes c.args.self.now c.take_next.new.self c.items.self c.take_next.ensures.keeps c.items.invariant.keeps) }
 
 pub returns-in_err-take_next-2-clause-keeps : goal.returns-in_err-take_next-2-clause-keeps
-returns-in_err-take_next-2-clause-keeps g c = goes_trans g.P.Processor.stands g.P.Processor.amid g.P.Processor.takes g.met.P.Processor.begins c.args.self.now c.items.self c.take_next-in-items.new.self (goes_trans g.P.Processor.stands g.P.Processor.amid g.P.Processor.takes g.met.P.Processor.begins c.args.self.now c.take_next.new.self c.items.self c.take_next.ensures.keeps c.items.invariant.keeps) c.take_next-in-items.ensures.keeps
+returns-in_err-take_next-2-clause-keeps g c = goes_trans g.P.Processor.stands g.P.Processor.amid g.P.Processor.takes c.args.self.now c.items.self c.take_next-in-items.new.self (goes_trans g.P.Processor.stands g.P.Processor.amid g.P.Processor.takes c.args.self.now c.take_next.new.self c.items.self c.take_next.ensures.keeps c.items.invariant.keeps) c.take_next-in-items.ensures.keeps
 
 pub returns-then-not-branch-2-clause-keeps : goal.returns-then-not-branch-2-clause-keeps
-returns-then-not-branch-2-clause-keeps g c = goes_trans g.P.Processor.stands g.P.Processor.amid g.P.Processor.takes g.met.P.Processor.begins c.args.self.now c.items.self c.take_next-in-items.new.self (goes_trans g.P.Processor.stands g.P.Processor.amid g.P.Processor.takes g.met.P.Processor.begins c.args.self.now c.take_next.new.self c.items.self c.take_next.ensures.keeps c.items.invariant.keeps) c.take_next-in-items.ensures.keeps
+returns-then-not-branch-2-clause-keeps g c = goes_trans g.P.Processor.stands g.P.Processor.amid g.P.Processor.takes c.args.self.now c.items.self c.take_next-in-items.new.self (goes_trans g.P.Processor.stands g.P.Processor.amid g.P.Processor.takes c.args.self.now c.take_next.new.self c.items.self c.take_next.ensures.keeps c.items.invariant.keeps) c.take_next-in-items.ensures.keeps
 
 pub items-preserved : goal.items-preserved
 items-preserved g c = record {
-  keeps = goes_trans g.P.Processor.stands g.P.Processor.amid g.P.Processor.takes g.met.P.Processor.begins c.take_next.new.self c.items.self c.take_next-in-items.new.self c.items.invariant.keeps c.take_next-in-items.ensures.keeps;
+  keeps = goes_trans g.P.Processor.stands g.P.Processor.amid g.P.Processor.takes c.take_next.new.self c.items.self c.take_next-in-items.new.self c.items.invariant.keeps c.take_next-in-items.ensures.keeps;
   turned = turned_trans g.P.Processor.same g.met.P.Processor.same_trans c.take_next.new.self c.items.self c.take_next-in-items.new.self c.items.invariant.turned c.take_next-in-items.ensures.turned;
   took =
       let so_far = c.items.invariant.took in
@@ -33,7 +33,7 @@ items-preserved g c = record {
 }
 
 pub returns-clause-keeps : goal.returns-clause-keeps
-returns-clause-keeps g c = goes_trans g.P.Processor.stands g.P.Processor.amid g.P.Processor.takes g.met.P.Processor.begins c.args.self.now c.take_next.new.self c.items.self c.take_next.ensures.keeps c.items.invariant.keeps
+returns-clause-keeps g c = goes_trans g.P.Processor.stands g.P.Processor.amid g.P.Processor.takes c.args.self.now c.take_next.new.self c.items.self c.take_next.ensures.keeps c.items.invariant.keeps
 
 pub returns-in_err-take_next-2-clause-turned : goal.returns-in_err-take_next-2-clause-turned
 returns-in_err-take_next-2-clause-turned g c = turned_trans g.P.Processor.same g.met.P.Processor.same_trans c.args.self.now c.items.self c.take_next-in-items.new.self (turned_trans g.P.Processor.same g.met.P.Processor.same_trans c.args.self.now c.take_next.new.self c.items.self c.take_next.ensures.turned c.items.invariant.turned) c.take_next-in-items.ensures.turned

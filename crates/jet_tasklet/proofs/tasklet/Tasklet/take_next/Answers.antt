@@ -1,12 +1,27 @@
-use Rattle.jet_tasklet.proofs.Keeping.{goes_trans, lawful_goes}
+use Rattle.std.proofs.Common.{◌≡◌, false}
+use Rattle.jet_tasklet.proofs.Keeping.{goes_trans, stays_trans, lawful_stays, worked_goes}
 use Rattle.jet_tasklet.proofs.Lasting.{turned_trans}
 use Rattle.jet_tasklet.proofs.tasklet.Tasklet.take_next.Goals as goal
 
 pub take-requires-clause-keeps : goal.take-requires-clause-keeps
-take-requires-clause-keeps g c = lawful_goes g.P.Processor.stands g.P.Processor.amid g.P.Processor.takes g.met.P.Processor.begins c.args.self.now c.work.new.self c.requires.keeps c.work.ensures.keeps
+take-requires-clause-keeps g c = lawful_stays g.P.Processor.stands g.P.Processor.amid g.P.Processor.takes c.args.self.now c.work.new.self c.requires.keeps c.work.ensures.keeps
 
 pub returns-clause-keeps : goal.returns-clause-keeps
-returns-clause-keeps g c = goes_trans g.P.Processor.stands g.P.Processor.amid g.P.Processor.takes g.met.P.Processor.begins c.args.self.now c.work.new.self c.take.new.self c.work.ensures.keeps c.take.ensures.keeps
+returns-clause-keeps g c = goes_trans g.P.Processor.stands g.P.Processor.amid g.P.Processor.takes c.args.self.now c.work.new.self c.take.new.self (worked_goes g.P.Processor.stands g.P.Processor.amid g.P.Processor.takes c.args.self.now c.work.new.self c.work.ensures.keeps c.work.ensures.worked) c.take.ensures.keeps
 
 pub returns-clause-turned : goal.returns-clause-turned
 returns-clause-turned g c = turned_trans g.P.Processor.same g.met.P.Processor.same_trans c.args.self.now c.work.new.self c.take.new.self c.work.ensures.turned c.take.ensures.turned
+
+pub returns-in_err-work-clause-keeps : goal.returns-in_err-work-clause-keeps
+returns-in_err-work-clause-keeps g c = worked_goes g.P.Processor.stands g.P.Processor.amid g.P.Processor.takes c.args.self.now c.work.new.self c.work.ensures.keeps c.work.ensures.worked
+
+pub returns-then-not-branch-clause-keeps : goal.returns-then-not-branch-clause-keeps
+returns-then-not-branch-clause-keeps g c = worked_goes g.P.Processor.stands g.P.Processor.amid g.P.Processor.takes c.args.self.now c.work.new.self c.work.ensures.keeps c.work.ensures.worked
+
+pub returns-then-not-is_polling-clause-keeps : goal.returns-then-not-is_polling-clause-keeps
+returns-then-not-is_polling-clause-keeps g c = worked_goes g.P.Processor.stands g.P.Processor.amid g.P.Processor.takes c.args.self.now c.work.new.self c.work.ensures.keeps c.work.ensures.worked
+
+pub returns-clause-same : goal.returns-clause-same
+returns-clause-same g c = λ e.
+    let none : c.take.result ≡ false = cc in
+    stays_trans g.P.Processor.stands g.P.Processor.amid g.P.Processor.takes c.args.self.now c.work.new.self c.take.new.self c.work.ensures.keeps (c.take.ensures.same none)

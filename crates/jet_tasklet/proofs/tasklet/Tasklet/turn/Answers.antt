@@ -1,45 +1,38 @@
-use Rattle.std.proofs.Common.{◌≡◌, Bool, true, ◌||◌, nat_lt, List, length, ap, sym, subst, arith, ltb-true, ltb-false}
+use Rattle.std.proofs.Common.{◌≡◌, ◌∙◌, Bool, true, ◌||◌, nat_lt, List, length, ap, sym, subst, arith, ltb-true, ltb-false}
 use Rattle.std.specs.Prelude.{Ok}
 use Rattle.jet_items.specs.declared.item.Item.{Item}
 use Rattle.jet_tasklet.specs.Outputs.{outputs_view, sent_count, Says}
-use Rattle.jet_tasklet.proofs.Turning.{moving, stilled, idles, none_of, rooms_on}
+use Rattle.jet_tasklet.proofs.Turning.{moving, stilled, idles, none_of, rooms_on, begun_goes, turn_goes, turn_stays}
 use Rattle.std.proofs.Common.{refl}
 use Rattle.jet_tasklet.proofs.Lasting.{turned_still, turned_trans}
 use Rattle.jet_tasklet.proofs.Keeping.{goes_refl, goes_trans, lawful_goes}
 use Rattle.jet_tasklet.proofs.tasklet.Tasklet.turn.Goals as goal
 
 pub returns-then-has_ended-clause-keeps : goal.returns-then-has_ended-clause-keeps
-returns-then-has_ended-clause-keeps g c = goes_refl g.P.Processor.stands g.P.Processor.amid g.P.Processor.takes g.met.P.Processor.begins c.args.self.now
+returns-then-has_ended-clause-keeps g c = goes_refl g.P.Processor.stands g.P.Processor.amid g.P.Processor.takes c.args.self.now
 
 pub take_items-requires : goal.take_items-requires
-take_items-requires g c = record { keeps = lawful_goes g.P.Processor.stands g.P.Processor.amid g.P.Processor.takes g.met.P.Processor.begins c.args.self.now c.give-pushed.new.self c.requires.keeps c.give-pushed.ensures.keeps }
+take_items-requires g c = record { keeps = lawful_goes g.P.Processor.stands g.P.Processor.amid g.P.Processor.takes c.args.self.now c.give-pushed.new.self c.requires.keeps c.give-pushed.ensures.keeps }
 
 pub returns-in_err-took-clause-keeps : goal.returns-in_err-took-clause-keeps
-returns-in_err-took-clause-keeps g c = goes_trans g.P.Processor.stands g.P.Processor.amid g.P.Processor.takes g.met.P.Processor.begins c.args.self.now c.give-pushed.new.self c.take_items.new.self c.give-pushed.ensures.keeps c.take_items.ensures.keeps
+returns-in_err-took-clause-keeps g c = goes_trans g.P.Processor.stands g.P.Processor.amid g.P.Processor.takes c.args.self.now c.give-pushed.new.self c.take_items.new.self c.give-pushed.ensures.keeps c.take_items.ensures.keeps
 
 pub work-requires : goal.work-requires
 work-requires g c =
-    let took = goes_trans g.P.Processor.stands g.P.Processor.amid g.P.Processor.takes g.met.P.Processor.begins c.args.self.now c.give-pushed.new.self c.take_items.new.self c.give-pushed.ensures.keeps c.take_items.ensures.keeps in
-    let begun = goes_trans g.P.Processor.stands g.P.Processor.amid g.P.Processor.takes g.met.P.Processor.begins c.args.self.now c.take_items.new.self c.begin_finish.new.self took c.begin_finish.ensures.keeps in
-    record { keeps = lawful_goes g.P.Processor.stands g.P.Processor.amid g.P.Processor.takes g.met.P.Processor.begins c.args.self.now c.begin_finish.new.self c.requires.keeps begun }
+    let begun = begun_goes g.P.Processor.stands g.P.Processor.amid g.P.Processor.takes c.args.self.now c.give-pushed.new.self c.take_items.new.self c.begin_finish.new.self c.give-pushed.ensures.keeps c.take_items.ensures.keeps c.begin_finish.ensures.keeps c.begin_finish.ensures.begins in
+    record { keeps = lawful_goes g.P.Processor.stands g.P.Processor.amid g.P.Processor.takes c.args.self.now c.begin_finish.new.self c.requires.keeps begun }
 
 pub returns-in_err-work-clause-keeps : goal.returns-in_err-work-clause-keeps
 returns-in_err-work-clause-keeps g c =
-    let took = goes_trans g.P.Processor.stands g.P.Processor.amid g.P.Processor.takes g.met.P.Processor.begins c.args.self.now c.give-pushed.new.self c.take_items.new.self c.give-pushed.ensures.keeps c.take_items.ensures.keeps in
-    let begun = goes_trans g.P.Processor.stands g.P.Processor.amid g.P.Processor.takes g.met.P.Processor.begins c.args.self.now c.take_items.new.self c.begin_finish.new.self took c.begin_finish.ensures.keeps in
-    goes_trans g.P.Processor.stands g.P.Processor.amid g.P.Processor.takes g.met.P.Processor.begins c.args.self.now c.begin_finish.new.self c.work.new.self begun c.work.ensures.keeps
+    turn_goes g.P.Processor.stands g.P.Processor.amid g.P.Processor.takes c.args.self.now c.give-pushed.new.self c.take_items.new.self c.begin_finish.new.self c.work.new.self c.give-pushed.ensures.keeps c.take_items.ensures.keeps c.begin_finish.ensures.keeps c.begin_finish.ensures.begins c.work.ensures.keeps c.work.ensures.worked
 
 pub returns-then-moved-clause-keeps : goal.returns-then-moved-clause-keeps
 returns-then-moved-clause-keeps g c =
-    let took = goes_trans g.P.Processor.stands g.P.Processor.amid g.P.Processor.takes g.met.P.Processor.begins c.args.self.now c.give-pushed.new.self c.take_items.new.self c.give-pushed.ensures.keeps c.take_items.ensures.keeps in
-    let begun = goes_trans g.P.Processor.stands g.P.Processor.amid g.P.Processor.takes g.met.P.Processor.begins c.args.self.now c.take_items.new.self c.begin_finish.new.self took c.begin_finish.ensures.keeps in
-    goes_trans g.P.Processor.stands g.P.Processor.amid g.P.Processor.takes g.met.P.Processor.begins c.args.self.now c.begin_finish.new.self c.work.new.self begun c.work.ensures.keeps
+    turn_goes g.P.Processor.stands g.P.Processor.amid g.P.Processor.takes c.args.self.now c.give-pushed.new.self c.take_items.new.self c.begin_finish.new.self c.work.new.self c.give-pushed.ensures.keeps c.take_items.ensures.keeps c.begin_finish.ensures.keeps c.begin_finish.ensures.begins c.work.ensures.keeps c.work.ensures.worked
 
 pub returns-else-moved-clause-keeps : goal.returns-else-moved-clause-keeps
 returns-else-moved-clause-keeps g c =
-    let took = goes_trans g.P.Processor.stands g.P.Processor.amid g.P.Processor.takes g.met.P.Processor.begins c.args.self.now c.give-pushed.new.self c.take_items.new.self c.give-pushed.ensures.keeps c.take_items.ensures.keeps in
-    let begun = goes_trans g.P.Processor.stands g.P.Processor.amid g.P.Processor.takes g.met.P.Processor.begins c.args.self.now c.take_items.new.self c.begin_finish.new.self took c.begin_finish.ensures.keeps in
-    goes_trans g.P.Processor.stands g.P.Processor.amid g.P.Processor.takes g.met.P.Processor.begins c.args.self.now c.begin_finish.new.self c.work.new.self begun c.work.ensures.keeps
+    turn_goes g.P.Processor.stands g.P.Processor.amid g.P.Processor.takes c.args.self.now c.give-pushed.new.self c.take_items.new.self c.begin_finish.new.self c.work.new.self c.give-pushed.ensures.keeps c.take_items.ensures.keeps c.begin_finish.ensures.keeps c.begin_finish.ensures.begins c.work.ensures.keeps c.work.ensures.worked
 
 pub returns-then-moved-clause-moved : goal.returns-then-moved-clause-moved
 returns-then-moved-clause-moved g c = λ e.
@@ -75,6 +68,14 @@ returns-else-moved-clause-still g c = λ e.
     (subst (λ (b : Bool). Says b (sent_count (outputs_view o.outputs.items)) (sent_count (outputs_view a.outputs.items))) e2.0 c.give-pushed.ensures.pushed)
     c.give-pushed.ensures.inputs stays worked c.begin_finish.ensures.begins c.work.ensures.worked
     (omega (arith, more, after, room, rooms))
+
+pub returns-else-moved-clause-same : goal.returns-else-moved-clause-same
+returns-else-moved-clause-same g c = λ e.
+    let p = c.give-pushed.result in
+    let q = c.in_ok-took.took in
+    let e1 = none_of (p || q) (nat_lt c.free-after.result c.free-room.result) c.if-moved.false in
+    let e2 = none_of p q e1.0 in
+    turn_stays g.P.Processor.stands g.P.Processor.amid g.P.Processor.takes c.args.self.now c.give-pushed.new.self c.take_items.new.self c.begin_finish.new.self c.work.new.self (c.give-pushed.ensures.same e2.0) (c.take_items.ensures.same (c.in_ok-took.was ∙ ap Ok e2.1)) c.begin_finish.ensures.keeps c.work.ensures.keeps
 
 pub returns-else-moved-clause-idle : goal.returns-else-moved-clause-idle
 returns-else-moved-clause-idle g c = λ e.

@@ -1,24 +1,24 @@
 use Rattle.std.proofs.Common.{refl}
 use Rattle.jet_tasklet.proofs.Lasting.{turned_still, turned_trans}
-use Rattle.jet_tasklet.proofs.Keeping.{goes_refl, goes_trans, lawful_goes}
+use Rattle.jet_tasklet.proofs.Keeping.{stays_refl, stays_trans, lawful_stays}
 use Rattle.jet_tasklet.proofs.Turning.{worked_refl, worked_trans}
 use Rattle.jet_tasklet.proofs.tasklet.Tasklet.work.Goals as goal
 
 pub calls-init : goal.calls-init
-calls-init g c = record { keeps = goes_refl g.P.Processor.stands g.P.Processor.amid g.P.Processor.takes g.met.P.Processor.begins c.args.self.now; worked = worked_refl c.args.self.now; turned = turned_still g.P.Processor.same c.args.self.now c.args.self.now (g.met.P.Processor.same_refl c.args.self.now.processor) refl refl refl }
+calls-init g c = record { keeps = stays_refl g.P.Processor.stands g.P.Processor.amid g.P.Processor.takes c.args.self.now; worked = worked_refl c.args.self.now; turned = turned_still g.P.Processor.same c.args.self.now c.args.self.now (g.met.P.Processor.same_refl c.args.self.now.processor) refl refl refl }
 
 pub advance-requires-clause-keeps : goal.advance-requires-clause-keeps
-advance-requires-clause-keeps g c = lawful_goes g.P.Processor.stands g.P.Processor.amid g.P.Processor.takes g.met.P.Processor.begins c.args.self.now c.calls.self c.requires.keeps c.calls.invariant.keeps
+advance-requires-clause-keeps g c = lawful_stays g.P.Processor.stands g.P.Processor.amid g.P.Processor.takes c.args.self.now c.calls.self c.requires.keeps c.calls.invariant.keeps
 
 pub returns-in_err-advance-clause-keeps : goal.returns-in_err-advance-clause-keeps
-returns-in_err-advance-clause-keeps g c = goes_trans g.P.Processor.stands g.P.Processor.amid g.P.Processor.takes g.met.P.Processor.begins c.args.self.now c.calls.self c.advance.new.self c.calls.invariant.keeps c.advance.ensures.keeps
+returns-in_err-advance-clause-keeps g c = stays_trans g.P.Processor.stands g.P.Processor.amid g.P.Processor.takes c.args.self.now c.calls.self c.advance.new.self c.calls.invariant.keeps c.advance.ensures.keeps
 
 pub returns-then-not-branch-clause-keeps : goal.returns-then-not-branch-clause-keeps
-returns-then-not-branch-clause-keeps g c = goes_trans g.P.Processor.stands g.P.Processor.amid g.P.Processor.takes g.met.P.Processor.begins c.args.self.now c.calls.self c.advance.new.self c.calls.invariant.keeps c.advance.ensures.keeps
+returns-then-not-branch-clause-keeps g c = stays_trans g.P.Processor.stands g.P.Processor.amid g.P.Processor.takes c.args.self.now c.calls.self c.advance.new.self c.calls.invariant.keeps c.advance.ensures.keeps
 
 pub calls-preserved : goal.calls-preserved
 calls-preserved g c = record {
-  keeps = goes_trans g.P.Processor.stands g.P.Processor.amid g.P.Processor.takes g.met.P.Processor.begins c.args.self.now c.calls.self c.advance.new.self c.calls.invariant.keeps c.advance.ensures.keeps;
+  keeps = stays_trans g.P.Processor.stands g.P.Processor.amid g.P.Processor.takes c.args.self.now c.calls.self c.advance.new.self c.calls.invariant.keeps c.advance.ensures.keeps;
   worked = worked_trans c.args.self.now c.calls.self c.advance.new.self c.calls.invariant.worked c.advance.ensures.worked;
   turned = turned_trans g.P.Processor.same g.met.P.Processor.same_trans c.args.self.now c.calls.self c.advance.new.self c.calls.invariant.turned c.advance.ensures.turned;
 }
