@@ -1,0 +1,6 @@
+pub mod Bags
+pub mod Ended
+pub mod VertexFlows
+pub mod Gives
+pub mod JoinSoFar
+pub mod SoFar
