@@ -1,16 +1,17 @@
 -- What the steps of a run do to the outside.
-use Rattle.std.proofs.Common.{◌≡◌, ℕ, ◌+◌, ◌≤◌, List, [], ◌∷◌, ◌++◌, length, take, drop, true, false, Option, Some, ap, sym, ◌∙◌, subst, length-take-le, Err, append-nil, append_assoc, map, refl, take-append-drop, inl, inr, Result, Ok, OnOk}
+use Rattle.std.proofs.Common.{◌≡◌, ℕ, ◌+◌, ◌≤◌, List, [], ◌∷◌, ◌++◌, length, take, drop, true, false, Option, Some, arith, ap, sym, ◌∙◌, subst, length-take-le, Err, append-nil, append_assoc, map, refl, take-append-drop, inl, inr, Result, Ok, OnOk}
 use Rattle.std.specs.Prelude.{IfErr}
-use Rattle.jet_file.specs.Outside.{Told, Entry, Place, Missed, Opening, Reading, Writing, Read, Wrote, Goes, ReadsFile, Stays, rest_of}
+use Rattle.jet_file.specs.Outside.{Told, Entry, Place, Missed, Tried, Opening, Reading, Writing, Read, Wrote, Goes, ReadsFile, Stays, rest_of}
 use Rattle.jet_file.specs.declared.outside.Out.{Out}
 use Rattle.jet_file.specs.declared.outside.Out.TheVariants as out
 use Rattle.jet_file.specs.declared.outside.OutFault.{OutFault}
 use Rattle.jet_file.specs.declared.outside.OutFault.TheVariants as fault
 use Rattle.jet_file.specs.Writing.{HasWritten, WritesFront}
 use Rattle.jet_lines.specs.LinesValue.{LinesValue}
-use Rattle.jet_worker.specs.Feeding.{Appends, Flushes, OpensData, ReadsBytes, TakesPiece, ReadsPiece, WritesText}
+use Rattle.jet_worker.specs.Feeding.{Appends, FailsAt, FailsPiece, Flushes, OpensData, ReadsBytes, TakesPiece, ReadsPiece, WritesText, most_piece}
 use Rattle.jet_worker.specs.Stopping.{StopTold}
 use Rattle.jet_worker.specs.Stopped.{stop_of, spot_of}
+use Rattle.jet_worker.specs.declared.stop.Call.{Call}
 use Rattle.jet_worker.specs.declared.stop.Call.TheVariants as call
 use Rattle.jet_worker.specs.declared.stop.Spot.{Spot}
 use Rattle.jet_worker.specs.declared.stop.Stop.{Stop}
@@ -19,6 +20,29 @@ use Rattle.jet_worker.proofs.GoesLemmas.{goes_then, goes_weaker}
 use Rattle.jet_worker.proofs.ReadLemmas.{rest_next}
 
 -- ---- openings and reads
+
+-- a call that did not do its work came alone
+call_fails : (call : Call) (spot : Spot) (tried : Tried) (f : OutFault) (a b : Told) → Stays tried f a b → FailsAt call spot tried (stop_of f call spot) a b
+call_fails call spot tried fault.Failed a b h = record { last = Missed tried ∷ []; is = (refl, refl, refl); same = h }
+call_fails call spot tried fault.NoMemory a b h = record {
+  last = [];
+  is = refl;
+  same = h ∙ ap (λ (t : List Entry). let q : Told = record a { trace = t } in q) (sym (append-nil a.trace));
+}
+
+pub goes_call_fails : (call : Call) (spot : Spot) (tried : Tried) (f : OutFault) (stop : Stop) (old now : Option Told) → stop ≡ stop_of f call spot → Goes (Stays tried f) old now → Goes (FailsAt call spot tried stop) old now
+goes_call_fails call spot tried f stop old now is =
+    goes_weaker (Stays tried f) (FailsAt call spot tried stop) (λ a b h. subst (λ (s : Stop). FailsAt call spot tried s a b) (sym is) (call_fails call spot tried f a b h)) old now
+
+pub goes_piece_fails : (spot : Spot) (file : ℕ) (stop : Stop) (old now : Option Told) → Goes (FailsAt call.Read spot (Reading file) stop) old now → Goes (FailsPiece spot file stop) old now
+goes_piece_fails spot file stop = goes_weaker (FailsAt call.Read spot (Reading file) stop) (FailsPiece spot file stop) (λ a b h. inl h)
+
+-- a piece was read, and where no memory was found to keep it that is said
+pub goes_unkept_piece : (spot : Spot) (file : ℕ) (buffer : List ℕ) (n : ℕ) (r : Result (Unit {0}) Stop) (old now : Option Told) → n ≤ length buffer → length buffer ≤ most_piece → IfErr r (λ stop. stop ≡ NoMemory)
+    → Goes (ReadsFile file buffer n) old now → IfErr r (λ stop. Goes (FailsPiece spot file stop) old now)
+goes_unkept_piece spot file buffer n (Ok done) old now fits most none h = tt
+goes_unkept_piece spot file buffer n (Err stop) old now fits most none h =
+    goes_weaker (ReadsFile file buffer n) (FailsPiece spot file stop) (λ a b s. inr (none, buffer, n, omega (arith, fits, most), s)) old now h
 
 -- an opening that did not do its work stops the run
 open_stops : (spot : Spot) (name : List ℕ) (f : OutFault) (a b : Told) → Stays (Opening name) f a b → OpensData spot name (Err (stop_of f call.Open spot)) a b
@@ -60,12 +84,14 @@ goes_read_stops spot file buffer f stop old now is h =
     subst (λ (s : Stop). Goes (ReadsBytes spot file buffer (Err s)) old now) (sym is)
     (goes_weaker (Stays (Reading file) f) (ReadsBytes spot file buffer (Err (stop_of f call.Read spot))) (read_stops spot file buffer f) old now h)
 
-takes_piece : (file : ℕ) (buffer : List ℕ) (n : ℕ) (before after : LinesValue) (a b : Told) → n ≤ length buffer → before.ended ≡ false
-    → after ≡ record before { rest = before.rest ++ take n buffer } → ReadsFile file buffer n a b → TakesPiece file before after a b
-takes_piece file buffer n before after a b fits live is r =
+takes_piece : (file : ℕ) (buffer : List ℕ) (n : ℕ) (before after : LinesValue) (a b : Told) → n ≤ length buffer → length buffer ≤ most_piece → before.ended ≡ false
+    → after ≡ record before { rest = before.rest ++ take n buffer; held = after.held } → ReadsFile file buffer n a b → TakesPiece file before after a b
+takes_piece file buffer n before after a b fits most live is r =
+    let len : length (take n buffer) ≡ n = length-take-le n buffer fits in
     let live_still : after.ended ≡ false = ap (λ (v : LinesValue). v.ended) is ∙ live in
     record {
       piece = take n buffer;
+      small = omega (arith, len, fits, most);
       lines = ap (λ (v : LinesValue). v.rest) is;
       end = λ h. absurd (true_not_false (sym h ∙ live_still));
       rest = sym (take-append-drop n (rest_of a file)) ∙ ap (λ (s : List ℕ). s ++ drop n (rest_of a file)) (sym r.bytes)
@@ -81,10 +107,10 @@ takes_piece file buffer n before after a b fits live is r =
     true_not_false : true ≡ false → ⊥
     true_not_false h = cc
 
-goes_piece : (file : ℕ) (buffer : List ℕ) (n : ℕ) (before after : LinesValue) (old now : Option Told) → n ≤ length buffer → before.ended ≡ false
-    → after ≡ record before { rest = before.rest ++ take n buffer } → Goes (ReadsFile file buffer n) old now → Goes (TakesPiece file before after) old now
-goes_piece file buffer n before after old now fits live is =
-    goes_weaker (ReadsFile file buffer n) (TakesPiece file before after) (λ a b r. takes_piece file buffer n before after a b fits live is r) old now
+goes_piece : (file : ℕ) (buffer : List ℕ) (n : ℕ) (before after : LinesValue) (old now : Option Told) → n ≤ length buffer → length buffer ≤ most_piece → before.ended ≡ false
+    → after ≡ record before { rest = before.rest ++ take n buffer; held = after.held } → Goes (ReadsFile file buffer n) old now → Goes (TakesPiece file before after) old now
+goes_piece file buffer n before after old now fits most live is =
+    goes_weaker (ReadsFile file buffer n) (TakesPiece file before after) (λ a b r. takes_piece file buffer n before after a b fits most live is r) old now
 
 -- the bytes were read, and no memory was found to keep them
 goes_unkept : (spot : Spot) (file : ℕ) (buffer : List ℕ) (n : ℕ) (before after : LinesValue) (stop : Stop) (old now : Option Told) → stop ≡ NoMemory → Goes (ReadsFile file buffer n) old now
@@ -97,11 +123,11 @@ goes_unkept spot file buffer n before after stop old now is =
     }) old now
 
 -- the bytes were read, and put to the lines where memory was found
-pub goes_kept : (spot : Spot) (file : ℕ) (buffer : List ℕ) (n : ℕ) (before after : LinesValue) (r : Result (Unit {0}) Stop) (old now : Option Told) → n ≤ length buffer → before.ended ≡ false
-    → OnOk r (after ≡ record before { rest = before.rest ++ take n buffer }) → IfErr r (λ stop. stop ≡ NoMemory) → Goes (ReadsFile file buffer n) old now
+pub goes_kept : (spot : Spot) (file : ℕ) (buffer : List ℕ) (n : ℕ) (before after : LinesValue) (r : Result (Unit {0}) Stop) (old now : Option Told) → n ≤ length buffer → length buffer ≤ most_piece → before.ended ≡ false
+    → OnOk r (after ≡ record before { rest = before.rest ++ take n buffer; held = after.held }) → IfErr r (λ stop. stop ≡ NoMemory) → Goes (ReadsFile file buffer n) old now
     → Goes (ReadsPiece spot file before after r) old now
-goes_kept spot file buffer n before after (Ok done) old now fits live is none h = goes_piece file buffer n before after old now fits live is h
-goes_kept spot file buffer n before after (Err stop) old now fits live is none h = goes_unkept spot file buffer n before after stop old now none h
+goes_kept spot file buffer n before after (Ok done) old now fits most live is none h = goes_piece file buffer n before after old now fits most live is h
+goes_kept spot file buffer n before after (Err stop) old now fits most live is none h = goes_unkept spot file buffer n before after stop old now none h
 
 -- ---- writes
 

@@ -1,5 +1,5 @@
 -- Lines that are read one after another.
-use Rattle.std.proofs.Common.{◌≡◌, ℕ, suc, ◌+◌, ◌<◌, ◌≤◌, List, [], ◌∷◌, ◌++◌, true, false, map, length, nat_le, nat_lt, Option, Some, None, refl, sym, ap, ◌∙◌, arith}
+use Rattle.std.proofs.Common.{◌≡◌, ℕ, suc, ◌+◌, ◌<◌, ◌≤◌, List, [], ◌∷◌, ◌++◌, true, false, map, length, nat_le, Option, Some, None, refl, sym, ap, ◌∙◌, arith}
 use Rattle.std.specs.Prelude.{Result, Ok, Err, is_ok, filter_map, option_to_list}
 use Rattle.std.specs.List.{enumerate_from, list_all, cons_option}
 use Rattle.std.proofs.lemmas.List.{append-nil, map-append}
@@ -7,9 +7,8 @@ use Rattle.std.proofs.lemmas.List.FromFn.{length-enumerate_from}
 use Rattle.std.proofs.lemmas.List.Sums.{take_while-cons}
 use Rattle.jet_lines.specs.Files.{numbered_at, readings_in, are_good, item_of, items_of, items_in, fault_of, first_of, first_bad_line}
 use Rattle.jet_lines.specs.Lines.{lines_of}
-use Rattle.jet_lines.specs.Readings.{line_at}
 use Rattle.jet_lines.specs.declared.fault.LineFault.{LineFault}
-use Rattle.jet_lines.specs.declared.fault.LineFault.TheVariants.{TooLong, TooMany}
+use Rattle.jet_lines.specs.declared.fault.LineFault.TheVariants.{TooMany}
 
 and_none : (n : ℕ) → n ≡ n + 0
 and_none n = omega (arith)
@@ -21,7 +20,7 @@ enumerate_append n (x ∷ xs) ys =
     ap (λ zs. (n, x) ∷ zs) (enumerate_append (n + 1) xs ys ∙ ap (λ k. enumerate_from (n + 1) xs ++ enumerate_from k ys) place)
 
 -- what lines hold, and then the others
-pub readings_append : {A : Type 0} (item : ℕ → List (List ℕ) → Result A LineFault) (most : ℕ) (given : List (List ℕ)) (line : List ℕ) (others : List (List ℕ))
+pub readings_append : {A : Type 0} (item : ℕ → List ℕ → Result (Option A) LineFault) (most : ℕ) (given : List (List ℕ)) (line : List ℕ) (others : List (List ℕ))
     → readings_in item most (given ++ line ∷ others)
     ≡ readings_in item most given ++ numbered_at item most (length given + 1, line) ∷ map (numbered_at item most) (enumerate_from (length given + 1 + 1) others)
 readings_append item most given line others =
@@ -33,7 +32,7 @@ length_map : {X Y : Type 0} (f : X → Y) (xs : List X) → length (map f xs) �
 length_map f [] = refl
 length_map f (x ∷ xs) = ap suc (length_map f xs)
 
-pub length_readings : {A : Type 0} (item : ℕ → List (List ℕ) → Result A LineFault) (most : ℕ) (lines : List (List ℕ)) → length (readings_in item most lines) ≡ length lines
+pub length_readings : {A : Type 0} (item : ℕ → List ℕ → Result (Option A) LineFault) (most : ℕ) (lines : List (List ℕ)) → length (readings_in item most lines) ≡ length lines
 length_readings item most lines = length_map (numbered_at item most) (enumerate_from 1 lines) ∙ length-enumerate_from 1 lines
 
 cons_append : {A : Type 0} (o : Option A) (xs ys : List A) → cons_option o (xs ++ ys) ≡ cons_option o xs ++ ys
@@ -81,7 +80,7 @@ all_items [] ok = refl
 all_items (Ok o ∷ good) ok = ap (filter_map item_of) (take_while-cons is_ok (Ok o) good) ∙ ap (cons_option o) (all_items good ok)
 all_items (Err f ∷ good) ok = cc ok
 
-pub good_more : {A : Type 0} (item : ℕ → List (List ℕ) → Result A LineFault) (most : ℕ) (given : List (List ℕ)) (line : List ℕ) (found : Option A)
+pub good_more : {A : Type 0} (item : ℕ → List ℕ → Result (Option A) LineFault) (most : ℕ) (given : List (List ℕ)) (line : List ℕ) (found : Option A)
     → are_good item most given ≡ true → numbered_at item most (length given + 1, line) ≡ Ok found
     → (are_good item most (given ++ line ∷ []) ≡ true) × (items_in item most (given ++ line ∷ []) ≡ items_in item most given ++ option_to_list found)
 good_more item most given line found good reads =
@@ -91,7 +90,7 @@ good_more item most given line found good reads =
       ap items_of all ∙ items_append (readings_in item most given) (Ok found ∷ []) good ∙ ap (λ xs. items_in item most given ++ xs) (items_one found),
     )
 
-pub bad_next : {A : Type 0} (item : ℕ → List (List ℕ) → Result A LineFault) (most : ℕ) (content : List ℕ) (given : List (List ℕ)) (line : List ℕ) (others : List (List ℕ)) (fault : LineFault)
+pub bad_next : {A : Type 0} (item : ℕ → List ℕ → Result (Option A) LineFault) (most : ℕ) (content : List ℕ) (given : List (List ℕ)) (line : List ℕ) (others : List (List ℕ)) (fault : LineFault)
     → are_good item most given ≡ true → lines_of content ≡ given ++ line ∷ others → numbered_at item most (length given + 1, line) ≡ Err fault
     → (first_bad_line item most content ≡ Some (length given + 1, fault)) × (items_in item most (lines_of content) ≡ items_in item most given)
 bad_next item most content given line others fault good parts reads =
@@ -104,7 +103,7 @@ bad_next item most content given line others fault good parts reads =
           ∙ ap (λ xs. items_in item most given ++ xs) (items_bad fault later) ∙ append-nil (items_in item most given),
     )
 
-pub all_good : {A : Type 0} (item : ℕ → List (List ℕ) → Result A LineFault) (most : ℕ) (content : List ℕ) → are_good item most (lines_of content) ≡ true
+pub all_good : {A : Type 0} (item : ℕ → List ℕ → Result (Option A) LineFault) (most : ℕ) (content : List ℕ) → are_good item most (lines_of content) ≡ true
     → (first_bad_line item most content ≡ None) × (items_in item most (lines_of content) ≡ filter_map item_of (readings_in item most (lines_of content)))
 all_good item most content good =
     (ap first_of (no_faults 1 (readings_in item most (lines_of content)) good), all_items (readings_in item most (lines_of content)) good)
@@ -115,19 +114,12 @@ le_true n most h = grind arith
 le_false : (n most : ℕ) → most ≤ n → nat_le (n + 1) most ≡ false
 le_false n most h = grind arith
 
-lt_true : (n : ℕ) → 512 < n → nat_lt 512 n ≡ true
-lt_true n h = grind arith
-
 -- a line whose number may be
-pub numbered_fits : {A : Type 0} (item : ℕ → List (List ℕ) → Result A LineFault) (most n : ℕ) (line : List ℕ) → n < most
-    → numbered_at item most (n + 1, line) ≡ line_at (item (n + 1)) line
+pub numbered_fits : {A : Type 0} (item : ℕ → List ℕ → Result (Option A) LineFault) (most n : ℕ) (line : List ℕ) → n < most
+    → numbered_at item most (n + 1, line) ≡ item (n + 1) line
 numbered_fits item most n line h = rw (le_true n most h) refl
 
 -- and one whose number may not
-pub numbered_over : {A : Type 0} (item : ℕ → List (List ℕ) → Result A LineFault) (most n : ℕ) (line : List ℕ) → most ≤ n
+pub numbered_over : {A : Type 0} (item : ℕ → List ℕ → Result (Option A) LineFault) (most n : ℕ) (line : List ℕ) → most ≤ n
     → numbered_at item most (n + 1, line) ≡ Err TooMany
 numbered_over item most n line h = rw (le_false n most h) refl
-
-pub long_line : {A : Type 0} (item : List (List ℕ) → Result A LineFault) (line : List ℕ) → 512 < length line → line_at item line ≡ Err TooLong
-long_line item [] long = absurd (omega (arith, long))
-long_line item (b ∷ line) long = rw (lt_true (length (b ∷ line)) long) refl

@@ -47,7 +47,7 @@ taken_starts at a = record {
 
 -- nothing is read yet
 pub progress_starts : (c : Checks) (p : ℕ × DataFile) (at : ℕ) (start : Option Told) (lines : LinesValue) (tally : Tally)
-    → lines ≡ record { most = c.most; number = 0; ended = false; line = []; rest = [] } → Tallied c p [] tally → Progress c p at start start lines tally
+    → lines ≡ record { most = c.most; number = 0; ended = false; line = []; rest = []; held = 0 } → Tallied c p [] tally → Progress c p at start start lines tally
 progress_starts c p at start lines tally is tallied =
     let ended : lines.ended ≡ false = ap (λ (v : LinesValue). v.ended) is in
     record {
@@ -123,7 +123,7 @@ progress_put c p at start now next lines lines' tally piece h live rest most num
 
 progress_more : (c : Checks) (p : ℕ × DataFile) (at : ℕ) (start now next : Option Told) (lines lines' : LinesValue) (tally : Tally)
     → Progress c p at start now lines tally → lines.ended ≡ false → PutsPiece lines lines' → Goes (TakesPiece at lines lines') now next → Progress c p at start next lines' tally
-progress_more c p at start now next lines lines' tally h live (inl (piece, some, is)) told =
+progress_more c p at start now next lines lines' tally h live (inl (piece, some, small, is)) told =
     progress_put c p at start now next lines lines' tally piece h live (ap (λ (v : LinesValue). v.rest) is) (ap (λ (v : LinesValue). v.most) is) (ap (λ (v : LinesValue). v.number) is) told
 progress_more c p at start now next lines lines' tally h live (inr is) told =
     progress_put c p at start now next lines lines' tally [] h live (ap (λ (v : LinesValue). v.rest) is ∙ sym (append-nil lines.rest)) (ap (λ (v : LinesValue). v.most) is) (ap (λ (v : LinesValue). v.number) is) told
@@ -135,7 +135,7 @@ progress_piece c p at start now next lines lines1 lines' tally h more puts told 
     progress_more c p at start now next lines1 lines' tally (subst (λ (v : LinesValue). Progress c p at start now v tally) (sym same) h) (ap (λ (v : LinesValue). v.ended) same ∙ more.0) puts told
 
 pub number_stays : (lines lines1 lines' : LinesValue) → NextIs lines cut.More lines1 → PutsPiece lines1 lines' → lines'.number ≡ lines.number
-number_stays lines lines1 lines' more (inl (piece, some, is)) = ap (λ (v : LinesValue). v.number) is ∙ ap (λ (v : LinesValue). v.number) more.3
+number_stays lines lines1 lines' more (inl (piece, some, small, is)) = ap (λ (v : LinesValue). v.number) is ∙ ap (λ (v : LinesValue). v.number) more.3
 number_stays lines lines1 lines' more (inr is) = ap (λ (v : LinesValue). v.number) is ∙ ap (λ (v : LinesValue). v.number) more.3
 
 -- ---- the measure
@@ -155,12 +155,12 @@ abbrev pub left : LinesValue → ℕ
 left v = (v.most - v.number) * 5002 + (5000 - length v.rest) + cond v.ended 0 1
 
 step_piece : (lines lines' : LinesValue) → lines.ended ≡ false → length lines.rest ≤ 513 → PutsPiece lines lines' → left lines' < left lines
-step_piece lines lines' live short (inl (piece, some, is)) =
+step_piece lines lines' live short (inl (piece, some, small, is)) =
     let rest : length lines'.rest ≡ length lines.rest + length piece = ap (λ (v : LinesValue). length v.rest) is ∙ length-append lines.rest piece in
     let ended : flag lines'.ended ≡ 1 = ap flag (ap (λ (v : LinesValue). v.ended) is ∙ live) in
     let old : flag lines.ended ≡ 1 = ap flag live in
     let whole : (lines'.most - lines'.number) * 5002 ≡ (lines.most - lines.number) * 5002 = ap (λ (v : LinesValue). (v.most - v.number) * 5002) is in
-    omega (arith, rest, whole, ended, old, short, some)
+    omega (arith, rest, whole, ended, old, short, some, small)
 step_piece lines lines' live short (inr is) =
     let rest : length lines'.rest ≡ length lines.rest = ap (λ (v : LinesValue). length v.rest) is in
     let ended : flag lines'.ended ≡ 0 = ap flag (ap (λ (v : LinesValue). v.ended) is) in

@@ -8,7 +8,7 @@ use Rattle.jet_items.specs.declared.no_memory.Refused.{Refused}
 use Rattle.jet_items.specs.declared.no_memory.Refused.TheVariants as refused
 use Rattle.jet_lines.specs.Files.{numbered_at, readings, readings_in, item_of, items_of, fault_of, first_of}
 use Rattle.jet_lines.specs.Lines.{lines_of}
-use Rattle.jet_lines.specs.Readings.{line_at, side_at}
+use Rattle.jet_lines.specs.Readings.{side_line}
 use Rattle.jet_lines.specs.declared.fault.LineFault.{LineFault}
 use Rattle.jet_lines.specs.declared.fault.LineFault.TheVariants.{KeyFull}
 use Rattle.jet_flow.specs.SideFiles.{first_bad_row, most_rows, reading_after, row_after, rows_of, rows_with, side_readings}
@@ -57,8 +57,8 @@ after_from front (r ∷ rest) =
     ap (λ (xs : List SideValue). reading_after xs r ∷ placed (front ++ r ∷ rest) (length front + 1) rest) head
     ∙ ap (λ (zs : List Reading). reading_after (filter_map item_of front) r ∷ zs) tail
 
-readings_are : (most : ℕ) (bytes : List ℕ) → side_readings most bytes ≡ side_after [] (readings side_at most bytes)
-readings_are most bytes = after_from [] (readings side_at most bytes)
+readings_are : (most : ℕ) (bytes : List ℕ) → side_readings most bytes ≡ side_after [] (readings side_line most bytes)
+readings_are most bytes = after_from [] (readings side_line most bytes)
 
 after_append : (rows : List SideValue) (xs ys : List Reading) → side_after rows (xs ++ ys) ≡ side_after rows xs ++ side_after (rows ++ filter_map item_of xs) ys
 after_append rows [] ys = ap (λ (zs : List SideValue). side_after zs ys) (sym (append-nil rows))
@@ -111,58 +111,58 @@ same_items rows (Ok (Some s) ∷ xs) ok =
 same_items rows (Err f ∷ xs) ok = cc ok
 
 -- ---- the first bad line
-pub no_bad_row : (most : ℕ) (bytes : List ℕ) → list_all is_ok (side_after [] (readings_in side_at most (lines_of bytes))) ≡ true
+pub no_bad_row : (most : ℕ) (bytes : List ℕ) → list_all is_ok (side_after [] (readings_in side_line most (lines_of bytes))) ≡ true
     → (first_bad_row most bytes ≡ None) × (rows_of most bytes ≡ side_rows most (lines_of bytes))
 no_bad_row most bytes good =
-    let is : side_readings most bytes ≡ side_after [] (readings side_at most bytes) = readings_are most bytes in (
-      ap (λ (rs : List Reading). first_of (filter_map fault_of (enumerate_from 1 rs))) is ∙ ap first_of (no_faults 1 (side_after [] (readings side_at most bytes)) good),
-      ap items_of is ∙ all_items (side_after [] (readings side_at most bytes)) good ∙ same_items [] (readings side_at most bytes) good,
+    let is : side_readings most bytes ≡ side_after [] (readings side_line most bytes) = readings_are most bytes in (
+      ap (λ (rs : List Reading). first_of (filter_map fault_of (enumerate_from 1 rs))) is ∙ ap first_of (no_faults 1 (side_after [] (readings side_line most bytes)) good),
+      ap items_of is ∙ all_items (side_after [] (readings side_line most bytes)) good ∙ same_items [] (readings side_line most bytes) good,
     )
 
 pub bad_row : (most : ℕ) (bytes : List ℕ) (given : List (List ℕ)) (line : List ℕ) (others : List (List ℕ)) (why : LineFault)
-    → list_all is_ok (side_after [] (readings_in side_at most given)) ≡ true → lines_of bytes ≡ given ++ line ∷ others
-    → reading_after (side_rows most given) (numbered_at side_at most (length given + 1, line)) ≡ Err why → first_bad_row most bytes ≡ Some (length given + 1, why)
+    → list_all is_ok (side_after [] (readings_in side_line most given)) ≡ true → lines_of bytes ≡ given ++ line ∷ others
+    → reading_after (side_rows most given) (numbered_at side_line most (length given + 1, line)) ≡ Err why → first_bad_row most bytes ≡ Some (length given + 1, why)
 bad_row most bytes given line others why good parts bad =
-    let next : Reading = numbered_at side_at most (length given + 1, line) in
-    let later : List Reading = map (numbered_at side_at most) (enumerate_from (length given + 1 + 1) others) in
-    let before : List Reading = readings_in side_at most given in
-    let all : readings side_at most bytes ≡ before ++ next ∷ later = ap (readings_in side_at most) parts ∙ readings_append side_at most given line others in
+    let next : Reading = numbered_at side_line most (length given + 1, line) in
+    let later : List Reading = map (numbered_at side_line most) (enumerate_from (length given + 1 + 1) others) in
+    let before : List Reading = readings_in side_line most given in
+    let all : readings side_line most bytes ≡ before ++ next ∷ later = ap (readings_in side_line most) parts ∙ readings_append side_line most given line others in
     let rest : List Reading = side_after (side_rows most given ++ option_to_list (item_of next)) later in
     let is : side_readings most bytes ≡ side_after [] before ++ Err why ∷ rest =
     readings_are most bytes ∙ ap (side_after []) all ∙ after_append [] before (next ∷ later)
     ∙ ap (λ (r : Reading). side_after [] before ++ r ∷ rest) bad in
-    let place : 1 + length (side_after [] before) ≡ length given + 1 = omega (arith, length_after [] before, length_readings side_at most given) in
+    let place : 1 + length (side_after [] before) ≡ length given + 1 = omega (arith, length_after [] before, length_readings side_line most given) in
     ap (λ (rs : List Reading). first_of (filter_map fault_of (enumerate_from 1 rs))) is ∙ faults_behind 1 (side_after [] before) rest why good ∙ ap (λ (k : ℕ). Some (k, why)) place
 
 -- ---- one line more
-readings_more : (most : ℕ) (given : List (List ℕ)) (line : List ℕ) (found : Option SideValue) → length given < most → line_at (side_at (length given + 1)) line ≡ Ok found
-    → readings_in side_at most (given ++ line ∷ []) ≡ readings_in side_at most given ++ Ok found ∷ []
+readings_more : (most : ℕ) (given : List (List ℕ)) (line : List ℕ) (found : Option SideValue) → length given < most → side_line (length given + 1) line ≡ Ok found
+    → readings_in side_line most (given ++ line ∷ []) ≡ readings_in side_line most given ++ Ok found ∷ []
 readings_more most given line found room read =
-    readings_append side_at most given line [] ∙ ap (λ (r : Reading). readings_in side_at most given ++ r ∷ []) (numbered_fits side_at most (length given) line room ∙ read)
+    readings_append side_line most given line [] ∙ ap (λ (r : Reading). readings_in side_line most given ++ r ∷ []) (numbered_fits side_line most (length given) line room ∙ read)
 
-rows_more : (most : ℕ) (given : List (List ℕ)) (line : List ℕ) (found : Option SideValue) → length given < most → line_at (side_at (length given + 1)) line ≡ Ok found
+rows_more : (most : ℕ) (given : List (List ℕ)) (line : List ℕ) (found : Option SideValue) → length given < most → side_line (length given + 1) line ≡ Ok found
     → side_rows most (given ++ line ∷ []) ≡ side_rows most given ++ option_to_list found
 rows_more most given line found room read =
-    ap (filter_map item_of) (readings_more most given line found room read) ∙ items_append (readings_in side_at most given) (Ok found ∷ [])
+    ap (filter_map item_of) (readings_more most given line found room read) ∙ items_append (readings_in side_line most given) (Ok found ∷ [])
     ∙ ap (λ (xs : List SideValue). side_rows most given ++ xs) (one_item (Ok found))
 
-good_more : (most : ℕ) (given : List (List ℕ)) (line : List ℕ) (found : Option SideValue) → length given < most → line_at (side_at (length given + 1)) line ≡ Ok found
-    → list_all is_ok (side_after [] (readings_in side_at most given)) ≡ true → reading_after (side_rows most given) (Ok found) ≡ Ok found
-    → list_all is_ok (side_after [] (readings_in side_at most (given ++ line ∷ []))) ≡ true
+good_more : (most : ℕ) (given : List (List ℕ)) (line : List ℕ) (found : Option SideValue) → length given < most → side_line (length given + 1) line ≡ Ok found
+    → list_all is_ok (side_after [] (readings_in side_line most given)) ≡ true → reading_after (side_rows most given) (Ok found) ≡ Ok found
+    → list_all is_ok (side_after [] (readings_in side_line most (given ++ line ∷ []))) ≡ true
 good_more most given line found room read good same =
     ap (λ (rs : List Reading). list_all is_ok (side_after [] rs)) (readings_more most given line found room read)
-    ∙ ap (list_all is_ok) (after_append [] (readings_in side_at most given) (Ok found ∷ []))
-    ∙ ap (λ (r : Reading). list_all is_ok (side_after [] (readings_in side_at most given) ++ r ∷ [])) same
-    ∙ good_append (side_after [] (readings_in side_at most given)) found good
+    ∙ ap (list_all is_ok) (after_append [] (readings_in side_line most given) (Ok found ∷ []))
+    ∙ ap (λ (r : Reading). list_all is_ok (side_after [] (readings_in side_line most given) ++ r ∷ [])) same
+    ∙ good_append (side_after [] (readings_in side_line most given)) found good
 
 count_more : (key : List ℕ) (rows : List SideValue) (s : SideValue) → rows_with key (rows ++ s ∷ []) ≡ rows_with key rows + (if bytes_eq s.key key then 1 else 0)
 count_more key rows s = count_last (λ (r : SideValue). bytes_eq r.key key) rows s
 
 -- a line without a row
-pub took_no_row : (n : ℕ) (line : List ℕ) (t : SideTally) → line_at (side_at n) line ≡ Ok None → TakesSideLine n line t t
+pub took_no_row : (n : ℕ) (line : List ℕ) (t : SideTally) → side_line n line ≡ Ok None → TakesSideLine n line t t
 took_no_row n line t read = λ most given h number small.
     let room : length given < most = omega (arith, number, small) in
-    let at : line_at (side_at (length given + 1)) line ≡ Ok None = subst (λ (k : ℕ). line_at (side_at k) line ≡ Ok None) number read in
+    let at : side_line (length given + 1) line ≡ Ok None = subst (λ (k : ℕ). side_line k line ≡ Ok None) number read in
     let same : side_rows most (given ++ line ∷ []) ≡ side_rows most given = rows_more most given line None room at ∙ append-nil (side_rows most given) in
     record {
       good = good_more most given line None room at h.good refl;
@@ -171,10 +171,10 @@ took_no_row n line t read = λ most given h number small.
     }
 
 -- a line with a row that was counted
-took_row : (n : ℕ) (line : List ℕ) (row : SideValue) (old new : SideTally) → line_at (side_at n) line ≡ Ok (Some row) → CountsRow row old new → TakesSideLine n line old new
+took_row : (n : ℕ) (line : List ℕ) (row : SideValue) (old new : SideTally) → side_line n line ≡ Ok (Some row) → CountsRow row old new → TakesSideLine n line old new
 took_row n line row old new read c = λ most given h number small.
     let room : length given < most = omega (arith, number, small) in
-    let at : line_at (side_at (length given + 1)) line ≡ Ok (Some row) = subst (λ (k : ℕ). line_at (side_at k) line ≡ Ok (Some row)) number read in
+    let at : side_line (length given + 1) line ≡ Ok (Some row) = subst (λ (k : ℕ). side_line k line ≡ Ok (Some row)) number read in
     let more : side_rows most (given ++ line ∷ []) ≡ side_rows most given ++ row ∷ [] = rows_more most given line (Some row) room at in
     let fits : rows_with row.key (side_rows most given) < most_rows = subst (λ (k : ℕ). k < most_rows) (h.counts row.key) c.room in
     record {
@@ -184,18 +184,18 @@ took_row n line row old new read c = λ most given h number small.
     }
 
 -- a line with a row whose key has no room
-refused_row : (n : ℕ) (line : List ℕ) (row : SideValue) (t : SideTally) (why : LineFault) (most : ℕ) (given : List (List ℕ)) → line_at (side_at n) line ≡ Ok (Some row) → SideTallied most given t
-    → why ≡ KeyFull → most_rows ≤ rows_at row.key t → reading_after (side_rows most given) (line_at (side_at n) line) ≡ Err why
+refused_row : (n : ℕ) (line : List ℕ) (row : SideValue) (t : SideTally) (why : LineFault) (most : ℕ) (given : List (List ℕ)) → side_line n line ≡ Ok (Some row) → SideTallied most given t
+    → why ≡ KeyFull → most_rows ≤ rows_at row.key t → reading_after (side_rows most given) (side_line n line) ≡ Err why
 refused_row n line row t why most given read h is full =
     ap (reading_after (side_rows most given)) read ∙ row_full (side_rows most given) row (subst (λ (k : ℕ). most_rows ≤ k) (h.counts row.key) full) ∙ ap Err (sym is)
 
 -- by the answer of counting the row
-pub took_by : (n : ℕ) (line : List ℕ) (row : SideValue) (old new : SideTally) (r : Result (Unit {0}) (Refused LineFault)) → line_at (side_at n) line ≡ Ok (Some row)
+pub took_by : (n : ℕ) (line : List ℕ) (row : SideValue) (old new : SideTally) (r : Result (Unit {0}) (Refused LineFault)) → side_line n line ≡ Ok (Some row)
     → OnOk r (CountsRow row old new) → OnOk r (TakesSideLine n line old new)
 took_by n line row old new (Ok done) read c = took_row n line row old new read c
 took_by n line row old new (Err e) read c = tt
 
-pub refused_by : (n : ℕ) (line : List ℕ) (row : SideValue) (old : SideTally) (r : Result (Unit {0}) (Refused LineFault)) → line_at (side_at n) line ≡ Ok (Some row)
+pub refused_by : (n : ℕ) (line : List ℕ) (row : SideValue) (old : SideTally) (r : Result (Unit {0}) (Refused LineFault)) → side_line n line ≡ Ok (Some row)
     → IfErr r (RefusesRow row old) → IfErr r (RefusesSideLine n line old)
 refused_by n line row old (Ok done) read c = tt
 refused_by n line row old (Err refused.NoMemory) read c = tt

@@ -1,6 +1,6 @@
 -- The lines of a source file, read one after another.
-use Rattle.std.proofs.Common.{◌≡◌, ℕ, ◌+◌, ◌<◌, ◌≤◌, Bool, true, false, ℤ, List, [], ◌∷◌, ◌++◌, map, length, nat_lt, Option, Some, None, Result, Ok, Err, All, refl, sym, ap, ◌∙◌, subst, arith, append-nil, length-append}
-use Rattle.std.specs.Prelude.{count_by, cond, filter, int_lt, nat_le, slice_get, if◌then◌else◌, ◌&&◌}
+use Rattle.std.proofs.Common.{◌≡◌, ℕ, ◌+◌, ◌<◌, ◌≤◌, Bool, true, false, ℤ, List, [], ◌∷◌, ◌++◌, map, length, nat_lt, Option, Some, None, Result, Ok, All, refl, sym, ap, ◌∙◌, subst, arith, append-nil, length-append}
+use Rattle.std.specs.Prelude.{count_by, cond, filter, int_lt, if◌then◌else◌}
 use Rattle.std.specs.Option.{option_map_or}
 use Rattle.std.proofs.lemmas.Bool.Decides.{nat_tests}
 use Rattle.std.proofs.lemmas.List.{map-append}
@@ -9,42 +9,29 @@ use Rattle.jet_items.specs.Marks.{is_behind, mark_at, mark_of, times_before}
 use Rattle.jet_items.specs.Values.{EventValue}
 use Rattle.jet_policy.specs.MarkerValue.{MarkerValue, HasSeen}
 use Rattle.jet_lines.specs.Files.{GoOn, are_good, events_in}
-use Rattle.jet_lines.specs.Readings.{◌>>=◌, fields_at, value_at, key_of, values_at, event_at, line_at}
+use Rattle.jet_items.specs.declared.no_memory.Refused.{Refused}
+use Rattle.jet_items.specs.declared.no_memory.Refused.TheVariants as refused
+use Rattle.jet_lines.specs.Readings.{◌>>=◌, Fails, entry_at, event_in, event_line}
+use Rattle.jet_lines.specs.declared.entry.Entry.{Entry}
+use Rattle.jet_lines.specs.declared.entry.Entry.TheVariants as entry
+use Rattle.jet_lines.specs.declared.fault.LineFault.{LineFault}
+use Rattle.jet_lines.proofs.EntryLemmas.{event_place}
 use Rattle.jet_lines.specs.declared.fault.LineFault.{LineFault}
 use Rattle.jet_worker.specs.CheckText.{behind_count}
-use Rattle.jet_worker.specs.Tallying.{CountsEvent, TakesSourceLine, is_below}
+use Rattle.jet_worker.specs.Tallying.{CountsEntry, CountsEvent, RefusesSourceLine, TakesSourceLine, is_below}
 use Rattle.jet_worker.specs.declared.source_tally.SourceTally.{SourceTally}
 use Rattle.jet_worker.proofs.CountLemmas.{count_first, count_last}
 use Rattle.jet_worker.proofs.FileLemmas.{good_more, numbered_fits}
 
--- ---- the line of an event
+-- ---- what a line holds
 
--- what went on without a fault
-went_on : {A B : Type 0} (r : Result A LineFault) (f : A → Result B LineFault) (y : B) → (r >>= f) ≡ Ok y → (x : A) × (r ≡ Ok x) × (f x ≡ Ok y)
-went_on (Ok x) f y h = (x, refl, h)
-went_on (Err e) f y h = absurd (cc h)
+-- the event of an entry
+pub entry_gives : (p n : ℕ) (line : List ℕ) (x : Entry) → entry_at p n line ≡ Ok x → event_line p n line ≡ Ok (event_in x)
+entry_gives p n line x h = ap (λ (r : Result Entry LineFault). r >>= (λ (y : Entry). Ok (event_in y))) h
 
-same_event : (x y : EventValue) → let r : Result EventValue LineFault = Ok x in r ≡ Ok y → x ≡ y
-same_event x y h = cc h
-
-same_found : (x y : EventValue) → let r : Result (Option EventValue) LineFault = Ok (Some x) in r ≡ Ok (Some y) → x ≡ y
-same_found x y h = cc h
-
-fields_line_if : (p n : ℕ) (fields : List (List ℕ)) (e : EventValue) (b : Bool) → (nat_le 3 (length fields) && nat_le (length fields) 6) ≡ b → event_at p n fields ≡ Ok e → e.line ≡ n
-fields_line_if p n fields e true is h =
-    let one = went_on (value_at 0 (slice_get fields 0)) _ e (rw is at h) in
-    let two = went_on (key_of (slice_get fields 1)) _ e one.2 in
-    let three = went_on (values_at fields) _ e two.2 in
-    ap (λ (x : EventValue). x.line) (sym (same_event _ e three.2))
-fields_line_if p n fields e false is h = absurd (cc (rw is at h))
-
--- the event of a line stands on the line of this number
-event_line : (p n : ℕ) (line : List ℕ) (e : EventValue) → line_at (event_at p n) line ≡ Ok (Some e) → e.line ≡ n
-event_line p n [] e h = absurd (cc h)
-event_line p n (b ∷ bytes) e h =
-    let one = went_on (fields_at (b ∷ bytes)) _ (Some e) h in
-    let two = went_on (event_at p n one.0) _ (Some e) one.2 in
-    ap (λ (x : EventValue). x.line) (sym (same_found two.0 e two.2)) ∙ fields_line_if p n one.0 two.0 _ refl two.1
+pub entry_refuses : (n : ℕ) (line : List ℕ) (t : SourceTally) (e : Refused LineFault) → Fails e (entry_at t.part n line) → RefusesSourceLine n line t e
+entry_refuses n line t refused.NoMemory h = tt
+entry_refuses n line t (refused.Fault why) h = ap (λ (r : Result Entry LineFault). r >>= (λ (y : Entry). Ok (event_in y))) h
 
 -- ---- events that are behind
 
@@ -125,18 +112,18 @@ mark_is lag grain times m l g h = ap (λ (x : ℤ). mark_at x m.grain m.greatest
 later : (n m a : ℕ) → a < n → n ≤ m → a < m
 later n m a h k = omega arith
 
-goes_on : (most p : ℕ) (given : List (List ℕ)) (line : List ℕ) (found : Option EventValue) (n : ℕ) → are_good (event_at p) most given ≡ true → n ≡ length given + 1 → n ≤ most
-    → line_at (event_at p n) line ≡ Ok found → GoOn (event_at p) most given line found
+goes_on : (most p : ℕ) (given : List (List ℕ)) (line : List ℕ) (found : Option EventValue) (n : ℕ) → are_good (event_line p) most given ≡ true → n ≡ length given + 1 → n ≤ most
+    → event_line p n line ≡ Ok found → GoOn (event_line p) most given line found
 goes_on most p given line found n good number small read =
     let room : length given < most = omega (arith, number, small) in
-    let at : line_at (event_at p (length given + 1)) line ≡ Ok found = subst (λ (k : ℕ). line_at (event_at p k) line ≡ Ok found) number read in
-    good_more (event_at p) most given line found good (numbered_fits (event_at p) most (length given) line room ∙ at)
+    let at : event_line p (length given + 1) line ≡ Ok found = subst (λ (k : ℕ). event_line p k line ≡ Ok found) number read in
+    good_more (event_line p) most given line found good (numbered_fits (event_line p) most (length given) line room ∙ at)
 
 -- a line without an event
-pub took_no_event : (n : ℕ) (line : List ℕ) (t : SourceTally) → line_at (event_at t.part n) line ≡ Ok None → TakesSourceLine n line t t
+pub took_no_event : (n : ℕ) (line : List ℕ) (t : SourceTally) → event_line t.part n line ≡ Ok None → TakesSourceLine n line t t
 took_no_event n line t read = λ most p lag unit given h number small.
-    let read2 : line_at (event_at p n) line ≡ Ok None = subst (λ (k : ℕ). line_at (event_at k n) line ≡ Ok None) h.part read in
-    let more : GoOn (event_at p) most given line None = goes_on most p given line None n h.good number small read2 in
+    let read2 : event_line p n line ≡ Ok None = subst (λ (k : ℕ). event_line k n line ≡ Ok None) h.part read in
+    let more : GoOn (event_line p) most given line None = goes_on most p given line None n h.good number small read2 in
     let same : events_in most p (given ++ line ∷ []) ≡ events_in most p given = more.1 ∙ append-nil (events_in most p given) in
     let longer : length (given ++ line ∷ []) ≡ length given + 1 = length-append given (line ∷ []) in
     record {
@@ -152,12 +139,12 @@ took_no_event n line t read = λ most p lag unit given h number small.
     }
 
 -- a line with an event that was counted
-pub took_event : (n : ℕ) (line : List ℕ) (e : EventValue) (old new : SourceTally) → line_at (event_at old.part n) line ≡ Ok (Some e) → CountsEvent e old new → TakesSourceLine n line old new
+pub took_event : (n : ℕ) (line : List ℕ) (e : EventValue) (old new : SourceTally) → event_line old.part n line ≡ Ok (Some e) → CountsEvent e old new → TakesSourceLine n line old new
 took_event n line e old new read c = λ most p lag unit given h number small.
-    let read2 : line_at (event_at p n) line ≡ Ok (Some e) = subst (λ (k : ℕ). line_at (event_at k n) line ≡ Ok (Some e)) h.part read in
-    let more : GoOn (event_at p) most given line (Some e) = goes_on most p given line (Some e) n h.good number small read2 in
+    let read2 : event_line p n line ≡ Ok (Some e) = subst (λ (k : ℕ). event_line k n line ≡ Ok (Some e)) h.part read in
+    let more : GoOn (event_line p) most given line (Some e) = goes_on most p given line (Some e) n h.good number small read2 in
     let events : List EventValue = events_in most p given in
-    let at : e.line ≡ n = event_line p n line e read2 in
+    let at : e.line ≡ n = (event_place p n line e read2).1 in
     let before : AreBefore e.line events = subst (λ (k : ℕ). AreBefore k events) (sym (at ∙ number)) h.lines in
     let longer : length (given ++ line ∷ []) ≡ length given + 1 = length-append given (line ∷ []) in
     let mark : mark_at old.marker.lag old.marker.grain old.marker.greatest ≡ mark_of lag unit (map (λ (x : EventValue). x.ts) events) =
@@ -180,3 +167,11 @@ took_event n line e old new read c = λ most p lag unit given h number small.
           ∙ sym (count_more lag unit events e before)
           ∙ ap (behind_count lag unit) (sym more.1);
     }
+
+-- a line whose entry was counted
+pub took_entry : (n : ℕ) (line : List ℕ) (x : Entry) (old new : SourceTally) → entry_at old.part n line ≡ Ok x → CountsEntry x old new → TakesSourceLine n line old new
+took_entry n line entry.Nothing old new read is =
+    subst (λ (t : SourceTally). TakesSourceLine n line old t) (sym is) (took_no_event n line old (entry_gives old.part n line entry.Nothing read))
+took_entry n line (entry.Event e) old new read c = took_event n line e old new (entry_gives old.part n line (entry.Event e) read) c
+took_entry n line entry.Idle old new read is =
+    subst (λ (t : SourceTally). TakesSourceLine n line old t) (sym is) (took_no_event n line old (entry_gives old.part n line entry.Idle read))

@@ -13,7 +13,7 @@ use Rattle.jet_items.specs.declared.no_memory.Refused.{Refused}
 use Rattle.jet_items.specs.declared.no_memory.Refused.TheVariants as refused
 use Rattle.jet_lines.specs.Files.{numbered_at}
 use Rattle.jet_lines.specs.Lines.{lines_of}
-use Rattle.jet_lines.specs.Readings.{event_at, line_at, side_at}
+use Rattle.jet_lines.specs.Readings.{event_line, side_at, side_line}
 use Rattle.jet_lines.specs.declared.fault.LineFault.{LineFault}
 use Rattle.jet_lines.specs.declared.fault.LineFault.TheVariants.{TooLong, TooMany}
 use Rattle.jet_flow.specs.DataFiles.{DataFile, SourceFile, SideFile}
@@ -23,7 +23,8 @@ use Rattle.jet_worker.specs.Tallying.{RefusesLine, RefusesSideLine, Tallied, fau
 use Rattle.jet_worker.specs.declared.side_tally.SideTally.{SideTally}
 use Rattle.jet_worker.specs.declared.tally.Tally.{Tally}
 use Rattle.jet_worker.specs.declared.tally.Tally.TheVariants.{Source, Side}
-use Rattle.jet_worker.proofs.FileLemmas.{all_good, bad_next, long_line, numbered_fits, numbered_over}
+use Rattle.jet_lines.proofs.EntryLemmas.{long_event, long_line}
+use Rattle.jet_worker.proofs.FileLemmas.{all_good, bad_next, numbered_fits, numbered_over}
 use Rattle.jet_worker.proofs.SideLemmas.{bad_row, no_bad_row}
 
 -- ---- the first bad line
@@ -35,27 +36,27 @@ fault_is (Err f) why h = ap Err (cc h)
 pub bad_is : (c : Checks) (p : ℕ × DataFile) (bytes : List ℕ) (given : List (List ℕ)) (line : List ℕ) (others : List (List ℕ)) (why : LineFault) (t : Tally) → Tallied c p given t
     → lines_of bytes ≡ given ++ line ∷ others → next_fault c p given line ≡ Some why → first_bad c p bytes ≡ Some (length given + 1, why)
 bad_is c (k, SourceFile name lag) bytes given line others why (Source t) h parts bad =
-    (bad_next (event_at k) c.most bytes given line others why h.good parts (fault_is (numbered_at (event_at k) c.most (length given + 1, line)) why bad)).0
+    (bad_next (event_line k) c.most bytes given line others why h.good parts (fault_is (numbered_at (event_line k) c.most (length given + 1, line)) why bad)).0
 bad_is c (k, SourceFile name lag) bytes given line others why (Side t) h parts bad = absurd h
 bad_is c (k, SideFile name) bytes given line others why (Side t) h parts bad =
-    bad_row c.most bytes given line others why h.good parts (fault_is (reading_after (side_rows c.most given) (numbered_at side_at c.most (length given + 1, line))) why bad)
+    bad_row c.most bytes given line others why h.good parts (fault_is (reading_after (side_rows c.most given) (numbered_at side_line c.most (length given + 1, line))) why bad)
 bad_is c (k, SideFile name) bytes given line others why (Source t) h parts bad = absurd h
 
 pub none_is : (c : Checks) (p : ℕ × DataFile) (bytes : List ℕ) (t : Tally) → Tallied c p (lines_of bytes) t → first_bad c p bytes ≡ None
-none_is c (k, SourceFile name lag) bytes (Source t) h = (all_good (event_at k) c.most bytes h.good).0
+none_is c (k, SourceFile name lag) bytes (Source t) h = (all_good (event_line k) c.most bytes h.good).0
 none_is c (k, SourceFile name lag) bytes (Side t) h = absurd h
 none_is c (k, SideFile name) bytes (Side t) h = (no_bad_row c.most bytes h.good).0
 none_is c (k, SideFile name) bytes (Source t) h = absurd h
 
 pub long_fault : (c : Checks) (p : ℕ × DataFile) (given : List (List ℕ)) (line : List ℕ) → length given < c.most → 512 < length line → next_fault c p given line ≡ Some TooLong
 long_fault c (k, SourceFile name lag) given line room long =
-    ap fault_in (numbered_fits (event_at k) c.most (length given) line room ∙ long_line (event_at k (length given + 1)) line long)
+    ap fault_in (numbered_fits (event_line k) c.most (length given) line room ∙ long_event k (length given + 1) line long)
 long_fault c (k, SideFile name) given line room long =
-    ap (λ r. fault_in (reading_after (side_rows c.most given) r)) (numbered_fits side_at c.most (length given) line room ∙ long_line (side_at (length given + 1)) line long)
+    ap (λ r. fault_in (reading_after (side_rows c.most given) r)) (numbered_fits side_line c.most (length given) line room ∙ long_line (side_at (length given + 1)) line long)
 
 pub many_fault : (c : Checks) (p : ℕ × DataFile) (given : List (List ℕ)) (line : List ℕ) → c.most ≤ length given → next_fault c p given line ≡ Some TooMany
-many_fault c (k, SourceFile name lag) given line full = ap fault_in (numbered_over (event_at k) c.most (length given) line full)
-many_fault c (k, SideFile name) given line full = ap (λ r. fault_in (reading_after (side_rows c.most given) r)) (numbered_over side_at c.most (length given) line full)
+many_fault c (k, SourceFile name lag) given line full = ap fault_in (numbered_over (event_line k) c.most (length given) line full)
+many_fault c (k, SideFile name) given line full = ap (λ r. fault_in (reading_after (side_rows c.most given) r)) (numbered_over side_line c.most (length given) line full)
 
 -- ---- a side line that is refused
 
@@ -67,8 +68,8 @@ side_refuses n line t (refused.Fault why) h = λ c p given. refuses c p given
     refuses c (k, SourceFile name lag) given tallied number small = absurd tallied
     refuses c (k, SideFile name) given tallied number small =
         let room : length given < c.most = omega (arith, number, small) in
-        ap (λ r. fault_in (reading_after (side_rows c.most given) r)) (numbered_fits side_at c.most (length given) line room)
-        ∙ ap (λ (j : ℕ). fault_in (reading_after (side_rows c.most given) (line_at (side_at j) line))) (sym number)
+        ap (λ r. fault_in (reading_after (side_rows c.most given) r)) (numbered_fits side_line c.most (length given) line room)
+        ∙ ap (λ (j : ℕ). fault_in (reading_after (side_rows c.most given) (side_line j line))) (sym number)
         ∙ ap fault_in (h c.most given tallied)
 
 pub side_refused_by : (n : ℕ) (line : List ℕ) (t : SideTally) (whole : Tally) (r : Result (Unit {0}) (Refused LineFault)) → whole ≡ Side t → IfErr r (RefusesSideLine n line t) → IfErr r (RefusesLine n line whole)

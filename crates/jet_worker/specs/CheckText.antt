@@ -5,7 +5,7 @@ use Rattle.jet_items.specs.Marks.{is_behind}
 use Rattle.jet_items.specs.Values.{EventValue}
 use Rattle.jet_lines.specs.Files.{events_of, first_bad_line}
 use Rattle.jet_lines.specs.Lines.{lines_of}
-use Rattle.jet_lines.specs.Readings.{event_at}
+use Rattle.jet_lines.specs.Readings.{event_line}
 use Rattle.jet_lines.specs.declared.fault.LineFault.{LineFault}
 use Rattle.jet_flow.specs.DataFiles.{DataFile, SourceFile, SideFile}
 use Rattle.jet_flow.specs.SideFiles.{first_bad_row, rows_of}
@@ -28,5 +28,5 @@ check_line c (p, SideFile name) bytes = line_text (codes "side" ∷ decimal p �
 
 -- the number and the fault of the first bad line of a file with its number
 abbrev pub first_bad : Checks → ℕ × DataFile → List ℕ → Option (ℕ × LineFault)
-first_bad c (p, SourceFile name lag) bytes = first_bad_line (event_at p) c.most bytes
+first_bad c (p, SourceFile name lag) bytes = first_bad_line (event_line p) c.most bytes
 first_bad c (p, SideFile name) bytes = first_bad_row c.most bytes

@@ -1,19 +1,28 @@
 -- What the steps of a run do on the outside.
-use Rattle.std.specs.Prelude.{◌≡◌, ◌≢◌, ℕ, ◌+◌, ◌<◌, Bool, true, List, [], ◌∷◌, ◌++◌, length, map, sum, Option, Some, Result, Ok, Err, ◌⊎◌}
-use Rattle.jet_file.specs.Outside.{Told, Wrote, Read, OpensFile, ReadsFile, AddsNumber, rest_of}
+use Rattle.std.specs.Prelude.{◌≡◌, ◌≢◌, ℕ, ◌+◌, ◌<◌, ◌≤◌, Bool, true, List, [], ◌∷◌, ◌++◌, length, map, sum, Option, Some, Result, Ok, Err, ◌⊎◌}
+use Rattle.jet_file.specs.Outside.{Told, Entry, Tried, Reading, Wrote, Read, OpensFile, ReadsFile, AddsNumber, rest_of}
 use Rattle.jet_file.specs.Writing.{HasWritten}
 use Rattle.jet_file.specs.declared.outside.Out.{Out}
 use Rattle.jet_file.specs.declared.outside.Out.TheVariants.{Rows, Notes}
 use Rattle.jet_lines.specs.LinesValue.{LinesValue}
-use Rattle.jet_worker.specs.Stopping.{StopTold}
+use Rattle.jet_worker.specs.Stopping.{LastOf, StopTold}
+use Rattle.jet_worker.specs.declared.stop.Call.{Call}
+use Rattle.jet_worker.specs.declared.stop.Call.TheVariants as call
 use Rattle.jet_worker.specs.declared.stop.Spot.{Spot}
 use Rattle.jet_worker.specs.declared.stop.Stop.{Stop}
+use Rattle.jet_worker.specs.declared.stop.Stop.TheVariants.{NoMemory}
 
 -- a step on the file of this name stopped: the call that failed is the one named, and no content or output changed
 pub record StopsAt (spot : Spot) (name : List ℕ) (stop : Stop) (old new : Told) : Type 0 where
   pub told : (name_of : Spot → Option (List ℕ)) → name_of spot ≡ Some name → StopTold name_of stop old new
   pub content : new.content ≡ old.content
   pub written : new.written ≡ old.written
+
+-- a step of one call stopped: that call came alone where it failed, and all else is as it was
+pub record FailsAt (call : Call) (spot : Spot) (tried : Tried) (stop : Stop) (old new : Told) : Type 0 where
+  pub last : List Entry
+  pub is : LastOf call spot tried stop last
+  pub same : new ≡ record old { trace = old.trace ++ last }
 
 -- the writing of a text stopped: a front of it was written, and nothing else
 pub record StopsWriting (to : Out) (text : List ℕ) (stop : Stop) (old new : Told) : Type 0 where
@@ -63,9 +72,14 @@ abbrev pub Flushes : {T : Type 0} → List ℕ → List ℕ → Result T Stop �
 Flushes rows notes (Ok done) old new = Appends rows notes old new
 Flushes rows notes (Err stop) old new = StopsAppending rows notes stop old new
 
+-- the most bytes of a piece
+abbrev pub most_piece : ℕ
+most_piece = 4096
+
 -- the next bytes of the file were put to its lines, or none were left
 pub record TakesPiece (file : ℕ) (before after : LinesValue) (old new : Told) : Type 0 where
   pub piece : List ℕ
+  pub small : length piece ≤ most_piece
   pub lines : after.rest ≡ before.rest ++ piece
   pub end : after.ended ≡ true → rest_of new file ≡ []
   pub rest : rest_of old file ≡ piece ++ rest_of new file
@@ -78,12 +92,17 @@ pub record TakesPiece (file : ℕ) (before after : LinesValue) (old new : Told) 
 
 -- the bytes that came were put, or the file has ended
 abbrev pub PutsPiece : LinesValue → LinesValue → Type 0
-PutsPiece before after = ((piece : List ℕ) × (0 < length piece) × (after ≡ record before { rest = before.rest ++ piece })) ⊎ (after ≡ record before { ended = true })
+PutsPiece before after = ((piece : List ℕ) × (0 < length piece) × (length piece ≤ most_piece) × (after ≡ record before { rest = before.rest ++ piece; held = after.held })) ⊎ (after ≡ record before { ended = true })
 
 -- the next bytes of the file are at the front of the buffer; or the reading stopped
 abbrev pub ReadsBytes : Spot → ℕ → List ℕ → Result ℕ Stop → Told → Told → Type 0
 ReadsBytes spot file buffer (Ok n) old new = ReadsFile file buffer n old new
 ReadsBytes spot file buffer (Err stop) old new = StopsAt spot (old.place file).name stop old new
+
+-- the read came alone and failed, or want of memory came before it; or it read a piece that no memory was found to keep
+abbrev pub FailsPiece : Spot → ℕ → Stop → Told → Told → Type 0
+FailsPiece spot file stop old new = FailsAt call.Read spot (Reading file) stop old new
+    ⊎ ((stop ≡ NoMemory) × (buffer : List ℕ) × (n : ℕ) × (n ≤ most_piece) × ReadsFile file buffer n old new)
 
 -- the next bytes of the file were put to its lines; or the reading stopped
 abbrev pub ReadsPiece : {T : Type 0} → Spot → ℕ → LinesValue → LinesValue → Result T Stop → Told → Told → Type 0

@@ -31,6 +31,12 @@ StopTold name_of (BadLine part line why) old new = ⊤
 StopTold name_of (Outside call spot) old new = EndsFailed name_of call spot old new
 StopTold name_of NoMemory old new = ⊤
 
+-- the stop names this call at this place, whose entry comes last; or memory was wanted, and nothing comes
+abbrev pub LastOf : Call → Spot → Tried → Stop → List Entry → Type 0
+LastOf call spot tried (BadLine part line why) last = ⊥
+LastOf call spot tried (Outside failed at) last = (failed ≡ call) × (at ≡ spot) × (last ≡ Missed tried ∷ [])
+LastOf call spot tried NoMemory last = last ≡ []
+
 -- the stop is for a call that failed
 abbrev pub IsForOutside : Stop → Type 0
 IsForOutside (BadLine part line why) = ⊥

@@ -12,7 +12,9 @@ use Rattle.jet_items.specs.declared.no_memory.Refused.{Refused}
 use Rattle.jet_items.specs.declared.no_memory.Refused.TheVariants as refused
 use Rattle.jet_policy.specs.MarkerValue.{HasSeen}
 use Rattle.jet_lines.specs.Files.{are_good, events_in, item_of, numbered_at, readings_in}
-use Rattle.jet_lines.specs.Readings.{event_at, line_at, side_at}
+use Rattle.jet_lines.specs.Readings.{event_line, side_line}
+use Rattle.jet_lines.specs.declared.entry.Entry.{Entry}
+use Rattle.jet_lines.specs.declared.entry.Entry.TheVariants as entry
 use Rattle.jet_lines.specs.declared.fault.LineFault.{LineFault}
 use Rattle.jet_lines.specs.declared.fault.LineFault.TheVariants.{KeyFull}
 use Rattle.jet_flow.specs.DataFiles.{DataFile, SourceFile, SideFile}
@@ -31,7 +33,7 @@ is_below mark ts = option_map_or (λ t. int_lt ts t) mark false
 
 -- these lines of source file p are good, and these are the numbers of their events
 pub record SourceTallied (most p : ℕ) (lag unit : ℤ) (given : List (List ℕ)) (t : SourceTally) : Type 0 where
-  pub good : are_good (event_at p) most given ≡ true
+  pub good : are_good (event_line p) most given ≡ true
   pub part : t.part ≡ p
   pub marker_lag : t.marker.lag ≡ lag
   pub marker_unit : t.marker.grain ≡ unit
@@ -47,7 +49,7 @@ side_after rows (r ∷ readings) = reading_after rows r ∷ side_after (rows ++ 
 
 -- the rows of lines, each by itself
 abbrev pub side_rows : ℕ → List (List ℕ) → List SideValue
-side_rows most given = filter_map item_of (readings_in side_at most given)
+side_rows most given = filter_map item_of (readings_in side_line most given)
 
 -- how many rows of a key were counted
 abbrev pub rows_at : List ℕ → SideTally → ℕ
@@ -55,7 +57,7 @@ rows_at key t = unwrap_or (lookup (is_at (slice_cmp nat_cmp key)) t.counts.entri
 
 -- these lines of a side file are good, and these are the numbers of their rows
 pub record SideTallied (most : ℕ) (given : List (List ℕ)) (t : SideTally) : Type 0 where
-  pub good : list_all is_ok (side_after [] (readings_in side_at most given)) ≡ true
+  pub good : list_all is_ok (side_after [] (readings_in side_line most given)) ≡ true
   pub counts : (key : List ℕ) → rows_at key t ≡ rows_with key (side_rows most given)
   pub rows : t.rows ≡ length (side_rows most given)
 
@@ -77,8 +79,8 @@ fault_in (Err why) = Some why
 
 -- the fault of a line behind these lines of a file with its number
 abbrev pub next_fault : Checks → ℕ × DataFile → List (List ℕ) → List ℕ → Option LineFault
-next_fault c (p, SourceFile name lag) given line = fault_in (numbered_at (event_at p) c.most (length given + 1, line))
-next_fault c (p, SideFile name) given line = fault_in (reading_after (side_rows c.most given) (numbered_at side_at c.most (length given + 1, line)))
+next_fault c (p, SourceFile name lag) given line = fault_in (numbered_at (event_line p) c.most (length given + 1, line))
+next_fault c (p, SideFile name) given line = fault_in (reading_after (side_rows c.most given) (numbered_at side_line c.most (length given + 1, line)))
 
 -- the event was counted
 pub record CountsEvent (e : EventValue) (old new : SourceTally) : Type 0 where
@@ -89,6 +91,12 @@ pub record CountsEvent (e : EventValue) (old new : SourceTally) : Type 0 where
   pub events : new.events ≡ old.events + 1
   pub behind : new.behind ≡ (if is_below (mark_at old.marker.lag old.marker.grain old.marker.greatest) e.ts then old.behind + 1 else old.behind)
 
+-- the event of an entry was counted, where there is one
+abbrev pub CountsEntry : Entry → SourceTally → SourceTally → Type 0
+CountsEntry entry.Nothing old new = new ≡ old
+CountsEntry (entry.Event e) old new = CountsEvent e old new
+CountsEntry entry.Idle old new = new ≡ old
+
 -- a line more of a source file was taken
 abbrev pub TakesSourceLine : ℕ → List ℕ → SourceTally → SourceTally → Type 0
 TakesSourceLine n line old new = (most p : ℕ) (lag unit : ℤ) (given : List (List ℕ)) → SourceTallied most p lag unit given old → n ≡ length given + 1 → n ≤ most
@@ -97,7 +105,7 @@ TakesSourceLine n line old new = (most p : ℕ) (lag unit : ℤ) (given : List (
 -- the line of a source file has this fault
 abbrev pub RefusesSourceLine : ℕ → List ℕ → SourceTally → Refused LineFault → Type 0
 RefusesSourceLine n line old refused.NoMemory = Unit {0}
-RefusesSourceLine n line old (refused.Fault why) = line_at (event_at old.part n) line ≡ Err why
+RefusesSourceLine n line old (refused.Fault why) = event_line old.part n line ≡ Err why
 
 -- the row was counted, which its key had room for
 pub record CountsRow (row : SideValue) (old new : SideTally) : Type 0 where
@@ -118,7 +126,7 @@ TakesSideLine n line old new = (most : ℕ) (given : List (List ℕ)) → SideTa
 abbrev pub RefusesSideLine : ℕ → List ℕ → SideTally → Refused LineFault → Type 0
 RefusesSideLine n line old refused.NoMemory = Unit {0}
 RefusesSideLine n line old (refused.Fault why) = (most : ℕ) (given : List (List ℕ)) → SideTallied most given old
-    → reading_after (side_rows most given) (line_at (side_at n) line) ≡ Err why
+    → reading_after (side_rows most given) (side_line n line) ≡ Err why
 
 -- one line more was taken
 abbrev pub TakesLine : ℕ → List ℕ → Tally → Tally → Type 0

@@ -1,7 +1,7 @@
 // The steps of a run on the outside: opening, reading a piece, writing a text. Each names the call that fails.
 ghost use Rattle.std.specs.Prelude.{◌≡◌, ◌≤◌, ◌<◌, length, IsTrue, OnOk, IfOk, false, true, ◌++◌, IfErr};
-ghost use Rattle.jet_file.specs.Outside.{Goes, LacksFile};
-ghost use Rattle.jet_worker.specs.Feeding.{AddsData, Flushes, OpensData, PutsPiece, ReadsBytes, ReadsPiece, WritesText};
+ghost use Rattle.jet_file.specs.Outside.{Goes, LacksFile, Opening, Reading};
+ghost use Rattle.jet_worker.specs.Feeding.{AddsData, FailsAt, FailsPiece, Flushes, OpensData, PutsPiece, ReadsBytes, ReadsPiece, WritesText};
 ghost use Rattle.jet_worker.specs.Stopping.{IsForOutside, IsNoBadLine, IsOfCall, OpenOutcome, Outcome};
 ghost use Rattle.jet_worker.specs.Stopped.{stop_of, spot_of};
 
@@ -16,6 +16,7 @@ pub fn open_data<O: Outside>(out: &mut O, spot: Spot, name: &[u8]) -> Result<Fil
     ensures outcome { OpenOutcome O.steady O.faults out.old out.new result }
     ensures works { O.steady out.old ≡ true → IfErr result (λ stop. IsForOutside stop → LacksFile name.now (O.told out.old)) }
     ensures call { IfErr result (IsOfCall Call.Open spot) }
+    ensures alone { IfErr result (λ stop. Goes (FailsAt Call.Open spot (Opening name.now) stop) (O.told out.old) (O.told out.new)) }
     ensures no_bad_line { IfErr result IsNoBadLine }
 {
     match out.open_file(name) {
@@ -37,6 +38,7 @@ pub fn read_bytes<O: Outside>(
     ensures bound { IfOk result (λ n. n ≤ length buf.new) }
     ensures outcome { Outcome O.opened O.steady O.faults out.old out.new result }
     ensures call { IfErr result (IsOfCall Call.Read spot) }
+    ensures alone { IfErr result (λ stop. Goes (FailsAt Call.Read spot (Reading file) stop) (O.told out.old) (O.told out.new)) }
     ensures no_bad_line { IfErr result IsNoBadLine }
 {
     match out.read(file, buf) {
@@ -45,7 +47,10 @@ pub fn read_bytes<O: Outside>(
     }
 }
 
-/// Reads the next piece of a data file to its lines.
+// The most bytes of a piece.
+const MOST_PIECE: usize = 4096;
+
+/// Reads the next piece of a data file to its lines, of at most 4096 bytes. After an error the lines are as they were.
 pub fn read_piece<O: Outside>(
     out: &mut O,
     spot: Spot,
@@ -56,10 +61,12 @@ pub fn read_piece<O: Outside>(
     requires open { lines.old.ended ≡ false }
     ensures told { Goes (ReadsPiece spot file lines.old lines.new result) (O.told out.old) (O.told out.new) }
     ensures lines { OnOk result (PutsPiece lines.old lines.new) }
+    ensures alone { IfErr result (λ stop. Goes (FailsPiece spot file stop) (O.told out.old) (O.told out.new)) }
+    ensures kept { IfErr result (λ stop. lines.new ≡ record lines.old { held = lines.new.held }) }
     ensures outcome { Outcome O.opened O.steady O.faults out.old out.new result }
     ensures no_bad_line { IfErr result IsNoBadLine }
 {
-    let mut buf = [0; 4096];
+    let mut buf = [0; MOST_PIECE];
     match read_bytes(out, spot, file, &mut buf) {
         Ok(0) => {
             lines.end();
@@ -118,8 +125,9 @@ fn stop_of(fault: OutFault, call: Call, file: Spot) -> Stop
 
 fn put_piece(lines: &mut Lines, piece: &[u8]) -> Result<(), Stop>
     requires open { lines.old.ended ≡ false }
-    ensures ok { OnOk result (lines.new ≡ record lines.old { rest = lines.old.rest ++ piece.now }) }
+    ensures ok { OnOk result (lines.new ≡ record lines.old { rest = lines.old.rest ++ piece.now; held = lines.new.held }) }
     ensures err { IfErr result (λ stop. stop ≡ Stop.NoMemory) }
+    ensures kept { IfErr result (λ stop. lines.new ≡ record lines.old { held = lines.new.held }) }
 {
     match lines.put(piece) {
         Ok(()) => Ok(()),

@@ -3,10 +3,10 @@ ghost use Rattle.std.specs.Prelude.{◌≡◌, ◌≤◌, ◌<◌, ◌^◌, ◌+
 ghost use Rattle.jet_items.specs.LineText.{line_text};
 ghost use Rattle.jet_items.specs.Ranges.{IsWithin, most_time};
 ghost use Rattle.jet_items.specs.Values.{EventValue};
-ghost use Rattle.jet_worker.specs.Tallying.{CountsEvent, RefusesSourceLine, SourceTallied, TakesSourceLine};
+ghost use Rattle.jet_worker.specs.Tallying.{CountsEntry, CountsEvent, RefusesSourceLine, SourceTallied, TakesSourceLine};
 
 use jet_items::{Event, Refused};
-use jet_lines::{LineFault, read_line};
+use jet_lines::{Entry, LineFault, read_line};
 use jet_policy::Marker;
 use std::alloc::{AllocError, Global};
 
@@ -49,12 +49,23 @@ impl SourceTally {
         ensures refused { IfErr result (RefusesSourceLine number line.now self.old) }
     {
         match read_line(alloc, line, self.part, number) {
-            Ok(Some(event)) => {
-                self.count(&event);
+            Ok(entry) => {
+                self.enter(&entry);
                 Ok(())
             }
-            Ok(None) => Ok(()),
             Err(refused) => Err(refused),
+        }
+    }
+
+    // Counts the event of a line, where it holds one.
+    fn enter(&mut self, entry: &Entry)
+        requires { (self.old.events < 2 ^ 32) × (self.old.behind < 2 ^ 32) }
+        ensures counts { CountsEntry entry.now self.old self.new }
+        ensures events { self.new.events ≤ self.old.events + 1 }
+        ensures behind { self.new.behind ≤ self.old.behind + 1 }
+    {
+        if let Entry::Event(event) = entry {
+            self.count(event);
         }
     }
 

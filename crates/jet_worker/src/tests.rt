@@ -178,6 +178,13 @@ fn a_file_has_its_line(rt: HostRuntime) -> Result<(), Fail> {
         BASE,
         Case { most: 1, ..BASE },
         plain(100, b"", Ok(()), "part,0,0,0,0\n"),
+        plain(
+            100,
+            b"#idle\n7,a,1\n20,a,1\n#idle\n14,a,1\n15,a,1\n#idle",
+            Ok(()),
+            "part,0,7,4,1\n",
+        ),
+        plain(100, b"7,a,1\n#idle \n", bad(0, 2, LineFault::Fields), ""),
         plain(2, b"7,a,1\n\n", Ok(()), "part,0,2,1,0\n"),
         plain(2, b"7,a,1\n8,a,1\n\n", bad(0, 3, LineFault::TooMany), ""),
         plain(2, b"7,a,1\n8\n\n", bad(0, 2, LineFault::Fields), ""),
@@ -220,6 +227,7 @@ fn a_side_file_has_its_line(rt: HostRuntime) -> Result<(), Fail> {
         sided(b"a,x\n\nb,y,1", Ok(()), "part,0,4,4,1\nside,1,3,2\n"),
         sided(many, bad(1, 18, LineFault::KeyFull), "part,0,4,4,1\n"),
         sided(b"a\n", bad(1, 1, LineFault::Fields), "part,0,4,4,1\n"),
+        sided(b"#idle\n", bad(1, 1, LineFault::Fields), "part,0,4,4,1\n"),
         Case {
             failing: 2,
             ..sided(b"", failed(Call::Open, Spot::Part(1)), "")
