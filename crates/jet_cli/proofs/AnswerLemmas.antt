@@ -10,7 +10,7 @@ use Rattle.std.proofs.lemmas.List.Sorted.{All-permutation}
 use Rattle.jet_items.specs.Rows.{Inflow}
 use Rattle.jet_items.specs.Values.{EventValue, LateValue}
 use Rattle.jet_lines.specs.Files.{first_bad_line, most_lines}
-use Rattle.jet_lines.specs.Readings.{event_at}
+use Rattle.jet_lines.specs.Readings.{event_line}
 use Rattle.jet_lines.specs.declared.fault.LineFault.{LineFault}
 use Rattle.jet_file.specs.Headline.{late_at}
 use Rattle.jet_file.specs.Outside.{Told, Goes}
@@ -71,8 +71,8 @@ in_time_is c old new step =
     (λ content. IsInTime (pos c.lag) (base_events content) → new.written Notes ≡ old.written Notes)
     (λ content quiet in_time. quiet (none_is_behind (pos c.lag) (pos c.slide) (base_events content) step in_time))
 
-pub none_bad : (o : Option (List ℕ)) (n : ℕ) (why : LineFault) → IsSomeAnd o (λ content. first_bad_line (event_at 0) most_lines content ≡ None)
-    → IsSomeAnd o (λ content. first_bad_line (event_at 0) most_lines content ≡ Some (n, why)) → ⊥
+pub none_bad : (o : Option (List ℕ)) (n : ℕ) (why : LineFault) → IsSomeAnd o (λ content. first_bad_line (event_line 0) most_lines content ≡ None)
+    → IsSomeAnd o (λ content. first_bad_line (event_line 0) most_lines content ≡ Some (n, why)) → ⊥
 none_bad None n why good bad = good
 none_bad (Some content) n why good bad = cc (sym good ∙ bad)
 

@@ -13,7 +13,7 @@ use Rattle.jet_items.specs.Rows.{Window, Inflow, IsRowOf, AreRows}
 use Rattle.jet_items.specs.Values.{EventValue, RowValue, LateValue}
 use Rattle.jet_lines.specs.Files.{are_good, events_in, most_lines}
 use Rattle.jet_lines.specs.Lines.{lines_of}
-use Rattle.jet_lines.specs.Readings.{event_at}
+use Rattle.jet_lines.specs.Readings.{event_line}
 use Rattle.jet_lines.proofs.FileLemmas.{all_good}
 use Rattle.jet_file.specs.Headline.{late_at, Headline}
 use Rattle.jet_file.specs.Outside.{Told, Place, OpensFile, AddsNumber, Entry, Opened, Read, rest_of}
@@ -159,7 +159,7 @@ pub done_is : (c : WindowCommand) (file : ℕ) (before now : ℕ → Bool) (old 
     → HasRun file bytes true rows (base_late_text (late_among c (events_in most_lines 0 given))) start new
     → rows ≡ base_rows_text c table
     → ((more : List ℕ) → (true ≡ true → more ≡ []) → lines_of (bytes ++ more) ≡ given ++ lines_of ([] ++ more))
-    → are_good (event_at 0) most_lines given ≡ true
+    → are_good (event_line 0) most_lines given ≡ true
     → AreRows (record { window = base_window c; events = kept_among c (events_in most_lines 0 given) } ∷ []) table
     → (closed : Option ℤ) → HasPaced c file bytes closed table start new
     → IsDone c before now old new
@@ -170,7 +170,7 @@ done_is c file before now old start new bytes rows given table opens adds run ro
     let same : bytes ≡ content = sym (append-nil bytes) ∙ ap (λ (s : List ℕ). bytes ++ s) (sym (run.end refl)) ∙ sym run.rest ∙ opened_rest c.file content file old start found.1 opens in
     let lines : lines_of content ≡ given = ap lines_of (sym same ∙ sym (append-nil bytes)) ∙ cut [] (λ e. refl) ∙ append-nil given in
     let events : events_in most_lines 0 given ≡ base_events content = ap (events_in most_lines 0) (sym lines) in
-    let good2 : are_good (event_at 0) most_lines (lines_of content) ≡ true = ap (are_good (event_at 0) most_lines) lines ∙ good in
+    let good2 : are_good (event_line 0) most_lines (lines_of content) ≡ true = ap (are_good (event_line 0) most_lines) lines ∙ good in
     let all2 : AreRows (record { window = base_window c; events = kept_among c (base_events content) } ∷ []) table =
     subst (λ (es : List EventValue). AreRows (record { window = base_window c; events = kept_among c es } ∷ []) table) events all in
     let head : Headline (base_inflow c content) (base_behind c content) (base_rows_text c table) (base_late_text (late_among c (base_events content))) = headline_is c content table all2 in
@@ -187,7 +187,7 @@ done_is c file before now old start new bytes rows given table opens adds run ro
         opened = adds.added;
         place = ap (λ (n : List ℕ). let p : Place = record { name = n; taken = (new.place file).taken } in p) name ∙ ap (λ (t : ℕ). let p : Place = record { name = c.file; taken = t } in p) taken;
       };
-      good = (all_good (event_at 0) most_lines content good2).0;
+      good = (all_good (event_line 0) most_lines content good2).0;
       rows_written = run.rows_written ∙ ap (λ w. w Rows ++ rows) opens.written ∙ ap (λ (l : List ℕ). old.written Rows ++ l) rows_are;
       notes_written = run.notes_written ∙ ap (λ w. w Notes ++ base_late_text (late_among c (events_in most_lines 0 given))) opens.written
           ∙ ap (λ (es : List EventValue). old.written Notes ++ base_late_text (late_among c es)) events;

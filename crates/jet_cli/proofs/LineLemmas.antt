@@ -2,8 +2,7 @@
 use Rattle.std.proofs.Common.{◌≡◌, ℕ, Bool, true, false, ◌&&◌, List, [], ◌∷◌, ◌++◌, length, refl, ap, sym, ◌∙◌, subst, Option, Some, None, Result, Ok, Err, append-nil, OnOk, ◌≤ℤ◌, ◌<ℤ◌}
 use Rattle.std.specs.Prelude.{nat_le, slice_get, IfErr, IfSome, IsSomeAnd}
 use Rattle.jet_items.specs.Values.{EventValue, RowValue}
-use Rattle.jet_lines.specs.Readings.{◌>>=◌, fields_at, value_at, key_of, values_at, event_at, line_at}
-use Rattle.jet_lines.specs.declared.fault.LineFault.{LineFault}
+use Rattle.jet_lines.specs.Readings.{event_line}
 use Rattle.jet_file.specs.Outside.{Told, Goes}
 use Rattle.jet_file.specs.declared.outside.Out.TheVariants.{Rows, Notes}
 use Rattle.jet_policy.specs.MarkerValue.{MarkerValue}
@@ -25,37 +24,9 @@ use Rattle.jet_worker.specs.declared.stop.Stop.{Stop}
 use Rattle.jet_worker.specs.declared.stop.Stop.TheVariants.{BadLine, Outside, NoMemory}
 use Rattle.jet_cli.proofs.GoesLemmas.{goes_weaker, goes_same}
 
--- what went on without a fault
-went_on : {A B : Type 0} (r : Result A LineFault) (f : A → Result B LineFault) (y : B) → (r >>= f) ≡ Ok y → (x : A) × (r ≡ Ok x) × (f x ≡ Ok y)
-went_on (Ok x) f y h = (x, refl, h)
-went_on (Err e) f y h = absurd (cc h)
-
-same_event : (x y : EventValue) → let r : Result EventValue LineFault = Ok x in r ≡ Ok y → x ≡ y
-same_event x y h = cc h
-
-same_found : (x y : EventValue) → let r : Result (Option EventValue) LineFault = Ok (Some x) in r ≡ Ok (Some y) → x ≡ y
-same_found x y h = cc h
-
--- the event of fields stands on the line of this number
-fields_line_if : (n : ℕ) (fields : List (List ℕ)) (e : EventValue) (b : Bool) → (nat_le 3 (length fields) && nat_le (length fields) 6) ≡ b → event_at 0 n fields ≡ Ok e → e.line ≡ n
-fields_line_if n fields e true is h =
-    let one = went_on (value_at 0 (slice_get fields 0)) _ e (rw is at h) in
-    let two = went_on (key_of (slice_get fields 1)) _ e one.2 in
-    let three = went_on (values_at fields) _ e two.2 in
-    ap (λ (x : EventValue). x.line) (sym (same_event _ e three.2))
-fields_line_if n fields e false is h = absurd (cc (rw is at h))
-
--- the event of a line stands on the line of this number
-pub event_line : (n : ℕ) (line : List ℕ) (e : EventValue) → line_at (event_at 0 n) line ≡ Ok (Some e) → e.line ≡ n
-event_line n [] e h = absurd (cc h)
-event_line n (b ∷ bytes) e h =
-    let one = went_on (fields_at (b ∷ bytes)) _ (Some e) h in
-    let two = went_on (event_at 0 n one.0) _ (Some e) one.2 in
-    ap (λ (x : EventValue). x.line) (sym (same_found two.0 e two.2)) ∙ fields_line_if n one.0 two.0 _ refl two.1
-
 -- an event of a line was counted, and the texts of that written
 pub wrote_event : (c : WindowCommand) (events : List EventValue) (e : EventValue) (table : List RowValue) (n : ℕ) (line : List ℕ) (now next : Option Told) (old mid new : WindowCounter)
-    → line_at (event_at 0 n) line ≡ Ok (Some e) → Took c events e table old mid → Prints c old → old.rows.items ≡ [] → old.notes.items ≡ []
+    → event_line 0 n line ≡ Ok (Some e) → Took c events e table old mid → Prints c old → old.rows.items ≡ [] → old.notes.items ≡ []
     → mid.size ≡ old.size → mid.name ≡ old.name
     → new.marker ≡ mid.marker → new.window ≡ mid.window → new.size ≡ mid.size → new.name ≡ mid.name
     → (r : Result (Unit {0}) Stop) → Goes (Flushes mid.rows.items mid.notes.items r) now next → OnOk r (new.rows.items ≡ []) → OnOk r (new.notes.items ≡ [])
@@ -97,7 +68,7 @@ same_none a = sym (append-nil a)
 
 -- a line that holds nothing
 pub wrote_nothing : (c : WindowCommand) (events : List EventValue) (table : List RowValue) (n : ℕ) (line : List ℕ) (now : Option Told) (w : WindowCounter)
-    → line_at (event_at 0 n) line ≡ Ok None → Counts c events table w.marker w.window → Prints c w → w.rows.items ≡ [] → w.notes.items ≡ []
+    → event_line 0 n line ≡ Ok None → Counts c events table w.marker w.window → Prints c w → w.rows.items ≡ [] → w.notes.items ≡ []
     → TookLine c events table n line now now w
 wrote_nothing c events table n line now w read counts prints no_rows no_notes = record {
   found = None;

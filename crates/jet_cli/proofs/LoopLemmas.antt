@@ -66,14 +66,14 @@ abbrev pub left : LinesValue → ℕ
 left v = (v.most - v.number) * 5002 + (5000 - length v.rest) + cond v.ended 0 1
 
 step_piece : (lines lines' : LinesValue) → lines.ended ≡ false → length lines.rest ≤ 513 → PutsPiece lines lines' → left lines' < left lines
-step_piece lines lines' live short (inl (piece, some, is)) =
+step_piece lines lines' live short (inl (piece, some, small, is)) =
     let rest : length lines'.rest ≡ length lines.rest + length piece = ap (λ (v : LinesValue). length v.rest) is ∙ length-append lines.rest piece in
     let most : lines'.most ≡ lines.most = ap (λ (v : LinesValue). v.most) is in
     let number : lines'.number ≡ lines.number = ap (λ (v : LinesValue). v.number) is in
     let ended : flag lines'.ended ≡ 1 = ap flag (ap (λ (v : LinesValue). v.ended) is ∙ live) in
     let old : flag lines.ended ≡ 1 = ap flag live in
     let whole : (lines'.most - lines'.number) * 5002 ≡ (lines.most - lines.number) * 5002 = ap (λ (v : LinesValue). (v.most - v.number) * 5002) is in
-    omega (arith, rest, whole, ended, old, short, some)
+    omega (arith, rest, whole, ended, old, short, some, small)
 step_piece lines lines' live short (inr is) =
     let rest : length lines'.rest ≡ length lines.rest = ap (λ (v : LinesValue). length v.rest) is in
     let ended : flag lines'.ended ≡ 0 = ap flag (ap (λ (v : LinesValue). v.ended) is) in

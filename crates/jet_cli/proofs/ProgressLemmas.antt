@@ -9,7 +9,7 @@ use Rattle.jet_lines.specs.Cutting.{MayCome, NextIs}
 use Rattle.jet_lines.specs.Files.{events_in, most_lines, GoOn}
 use Rattle.jet_lines.specs.Lines.{lines_of}
 use Rattle.jet_lines.specs.LinesValue.{LinesValue}
-use Rattle.jet_lines.specs.Readings.{event_at, line_at}
+use Rattle.jet_lines.specs.Readings.{event_line}
 use Rattle.jet_lines.specs.declared.cut.Cut.TheVariants as cut
 use Rattle.jet_lines.proofs.FileLemmas.{good_more, numbered_fits}
 use Rattle.jet_file.specs.Outside.{Told, Goes}
@@ -25,7 +25,7 @@ use Rattle.jet_lines.specs.Feeds.{NoFeed}
 use Rattle.jet_lines.proofs.WholeLemmas.{given_all}
 use Rattle.jet_cli.specs.declared.counter.WindowCounter.{WindowCounter}
 use Rattle.jet_cli.proofs.KeptLemmas.{late_more}
-use Rattle.jet_cli.proofs.LineLemmas.{event_line}
+use Rattle.jet_lines.proofs.EntryLemmas.{event_place}
 use Rattle.jet_cli.proofs.RunLemmas.{goes_starts, goes_takes, goes_writes}
 
 late_if : (c : WindowCommand) (e : EventValue) (b : Bool) → flat_map (late_line (codes "w")) (if b then e ∷ [] else []) ≡ (if b then late_line (codes "w") e else [])
@@ -33,21 +33,21 @@ late_if c e true = append-nil (late_line (codes "w") e)
 late_if c e false = refl
 
 -- the late lines with those of one line more
-late_text_more : (c : WindowCommand) (events : List EventValue) (found : Option EventValue) (n : ℕ) (line : List ℕ) → line_at (event_at 0 n) line ≡ Ok found → All (λ e. e.line < n) events
+late_text_more : (c : WindowCommand) (events : List EventValue) (found : Option EventValue) (n : ℕ) (line : List ℕ) → event_line 0 n line ≡ Ok found → All (λ e. e.line < n) events
     → base_late_text (late_among c (events ++ option_to_list found)) ≡ base_late_text (late_among c events) ++ late_of_line c events found
 late_text_more c events None n line read before =
     ap (λ (es : List EventValue). base_late_text (late_among c es)) (append-nil events) ∙ sym (append-nil (base_late_text (late_among c events)))
 late_text_more c events (Some e) n line read before =
-    let at : e.line ≡ n = event_line n line e read in
+    let at : e.line ≡ n = (event_place 0 n line e read).1 in
     ap base_late_text (late_more c events e (subst (λ (k : ℕ). All (λ (x : EventValue). x.line < k) events) (sym at) before))
     ∙ flat_map-append (late_line (codes "w")) (late_among c events) (if is_behind (pos c.lag) (pos c.slide) events e then e ∷ [] else [])
     ∙ ap (λ (l : List ℕ). base_late_text (late_among c events) ++ l) (late_if c e (is_behind (pos c.lag) (pos c.slide) events e))
 
 -- what a line holds stands on it
-found_before : (found : Option EventValue) (n : ℕ) (line : List ℕ) → line_at (event_at 0 n) line ≡ Ok found → All (λ e. e.line < n + 1) (option_to_list found)
+found_before : (found : Option EventValue) (n : ℕ) (line : List ℕ) → event_line 0 n line ≡ Ok found → All (λ e. e.line < n + 1) (option_to_list found)
 found_before None n line read = All-nil (λ (e : EventValue). e.line < n + 1)
 found_before (Some e) n line read =
-    All-cons (λ (x : EventValue). x.line < n + 1) e [] (let at : e.line ≡ n = event_line n line e read in omega (arith, at)) (All-nil (λ (x : EventValue). x.line < n + 1))
+    All-cons (λ (x : EventValue). x.line < n + 1) e [] (let at : e.line ≡ n = (event_place 0 n line e read).1 in omega (arith, at)) (All-nil (λ (x : EventValue). x.line < n + 1))
 
 later : (n m a : ℕ) → a < n → n ≤ m → a < m
 later n m a h k = omega arith
@@ -59,8 +59,8 @@ progress_line c file start now next lines lines' w w' n p next_is t =
     let events : List EventValue = events_in most_lines 0 p.given in
     let number : n ≡ length p.given + 1 = next_is.0 ∙ ap (λ (k : ℕ). k + 1) p.number in
     let room : length p.given < most_lines = omega (arith, next_is.1, p.most, number) in
-    let read : line_at (event_at 0 (length p.given + 1)) lines'.line ≡ Ok t.found = subst (λ (k : ℕ). line_at (event_at 0 k) lines'.line ≡ Ok t.found) number t.read in
-    let more : GoOn (event_at 0) most_lines p.given lines'.line t.found = good_more (event_at 0) most_lines p.given lines'.line t.found p.good (numbered_fits (event_at 0) most_lines (length p.given) lines'.line room ∙ read) in
+    let read : event_line 0 (length p.given + 1) lines'.line ≡ Ok t.found = subst (λ (k : ℕ). event_line 0 k lines'.line ≡ Ok t.found) number t.read in
+    let more : GoOn (event_line 0) most_lines p.given lines'.line t.found = good_more (event_line 0) most_lines p.given lines'.line t.found p.good (numbered_fits (event_line 0) most_lines (length p.given) lines'.line room ∙ read) in
     let given : List (List ℕ) = p.given ++ lines'.line ∷ [] in
     let longer : length given ≡ length p.given + 1 = length-append p.given (lines'.line ∷ []) in
     let ended : lines'.ended ≡ lines.ended = ap (λ (v : LinesValue). v.ended) next_is.4 in
@@ -127,14 +127,14 @@ progress_put c file start now next lines lines' w piece p live none rest most nu
 -- one piece more, or the end of the file
 pub progress_more : (c : WindowCommand) (file : ℕ) (start now next : Option Told) (lines lines' : LinesValue) (w : WindowCounter)
     → Progress c file start now lines w → lines.ended ≡ false → NoFeed lines.rest (length lines.rest) → PutsPiece lines lines' → Goes (TakesPiece file lines lines') now next → Progress c file start next lines' w
-progress_more c file start now next lines lines' w p live none (inl (piece, some, is)) told =
+progress_more c file start now next lines lines' w p live none (inl (piece, some, small, is)) told =
     progress_put c file start now next lines lines' w piece p live none (ap (λ (v : LinesValue). v.rest) is) (ap (λ (v : LinesValue). v.most) is) (ap (λ (v : LinesValue). v.number) is) told
 progress_more c file start now next lines lines' w p live none (inr is) told =
     progress_put c file start now next lines lines' w [] p live none (ap (λ (v : LinesValue). v.rest) is ∙ sym (append-nil lines.rest)) (ap (λ (v : LinesValue). v.most) is) (ap (λ (v : LinesValue). v.number) is) told
 
 -- nothing is read yet
 pub progress_starts : (c : WindowCommand) (file : ℕ) (start : Option Told) (lines : LinesValue) (w : WindowCounter)
-    → lines ≡ record { most = most_lines; number = 0; ended = false; line = []; rest = [] } → Counts c [] [] w.marker w.window → Prints c w → w.rows.items ≡ [] → w.notes.items ≡ []
+    → lines ≡ record { most = most_lines; number = 0; ended = false; line = []; rest = []; held = 0 } → Counts c [] [] w.marker w.window → Prints c w → w.rows.items ≡ [] → w.notes.items ≡ []
     → Progress c file start start lines w
 progress_starts c file start lines w is counts prints no_rows no_notes =
     let ended : lines.ended ≡ false = ap (λ (v : LinesValue). v.ended) is in

@@ -5,11 +5,12 @@ use Rattle.jet_lines.specs.Cutting.{MayCome, NextIs}
 use Rattle.jet_lines.specs.Files.{first_bad_line, most_lines}
 use Rattle.jet_lines.specs.Lines.{lines_of}
 use Rattle.jet_lines.specs.LinesValue.{LinesValue}
-use Rattle.jet_lines.specs.Readings.{event_at, line_at}
+use Rattle.jet_lines.specs.Readings.{event_line}
 use Rattle.jet_lines.specs.declared.cut.Cut.TheVariants as cut
 use Rattle.jet_lines.specs.declared.fault.LineFault.{LineFault}
 use Rattle.jet_lines.specs.declared.fault.LineFault.TheVariants as fault
-use Rattle.jet_lines.proofs.FileLemmas.{bad_next, numbered_fits, numbered_over, long_line}
+use Rattle.jet_lines.proofs.EntryLemmas.{long_event}
+use Rattle.jet_lines.proofs.FileLemmas.{bad_next, numbered_fits, numbered_over}
 use Rattle.jet_file.specs.Outside.{Told, Place, Goes, OpensFile, rest_of}
 use Rattle.jet_cli.proofs.ReadLemmas.{opened_rest}
 use Rattle.jet_cli.specs.Base.{base_name}
@@ -37,7 +38,7 @@ stop_later name_of NoMemory more a b c is h = tt
 
 bad_of : (c : WindowCommand) (content : List ℕ) (told : Told) (stop : Stop) → told.content c.file ≡ Some content → IsBadIn content stop → IsBadOf c told stop
 bad_of c content told (BadLine part n why) is h =
-    (h.0, subst (λ (o : Option (List ℕ)). IsSomeAnd o (λ (bytes : List ℕ). first_bad_line (event_at 0) most_lines bytes ≡ Some (n, why))) (sym is) h.1)
+    (h.0, subst (λ (o : Option (List ℕ)). IsSomeAnd o (λ (bytes : List ℕ). first_bad_line (event_line 0) most_lines bytes ≡ Some (n, why))) (sym is) h.1)
 bad_of c content told (Outside call spot) is h = tt
 bad_of c content told NoMemory is h = tt
 
@@ -66,15 +67,15 @@ goes_run_stops c file bytes ended rows notes stop (Some old) (Some start) (Some 
 module _ (c : WindowCommand) (file : ℕ) (start now : Option Told) (lines : LinesValue) (w : WindowCounter) (p : Progress c file start now lines w) where
   bad_at : (content more : List ℕ) (line : List ℕ) (others : List (List ℕ)) (f : LineFault) (part n : ℕ) → content ≡ p.bytes ++ more → MayCome lines.ended more
       → lines_of (lines.rest ++ more) ≡ line ∷ others → part ≡ 0 → n ≡ lines.number + 1
-      → ((length p.given < most_lines) × (line_at (event_at 0 (length p.given + 1)) line ≡ Err f)) ⊎ ((most_lines ≤ length p.given) × (f ≡ fault.TooMany))
+      → ((length p.given < most_lines) × (event_line 0 (length p.given + 1) line ≡ Err f)) ⊎ ((most_lines ≤ length p.given) × (f ≡ fault.TooMany))
       → IsBadIn content (BadLine part n f)
   bad_at content more line others f part n is may next part_is n_is how =
       let parts : lines_of content ≡ p.given ++ line ∷ others = ap lines_of is ∙ p.cut more may ∙ ap (λ (l : List (List ℕ)). p.given ++ l) next in
       let number : n ≡ length p.given + 1 = n_is ∙ ap (λ (k : ℕ). k + 1) p.number in (
         part_is,
         elim how [
-          | inl h ↦ (bad_next (event_at 0) most_lines content p.given line others f p.good parts (numbered_fits (event_at 0) most_lines (length p.given) line h.0 ∙ h.1)).0 ∙ ap (λ (k : ℕ). Some (k, f)) (sym number)
-          | inr h ↦ (bad_next (event_at 0) most_lines content p.given line others f p.good parts (numbered_over (event_at 0) most_lines (length p.given) line h.0 ∙ ap Err (sym h.1))).0 ∙ ap (λ (k : ℕ). Some (k, f)) (sym number)
+          | inl h ↦ (bad_next (event_line 0) most_lines content p.given line others f p.good parts (numbered_fits (event_line 0) most_lines (length p.given) line h.0 ∙ h.1)).0 ∙ ap (λ (k : ℕ). Some (k, f)) (sym number)
+          | inr h ↦ (bad_next (event_line 0) most_lines content p.given line others f p.good parts (numbered_over (event_line 0) most_lines (length p.given) line h.0 ∙ ap Err (sym h.1))).0 ∙ ap (λ (k : ℕ). Some (k, f)) (sym number)
         ],
       )
 
@@ -83,7 +84,7 @@ module _ (c : WindowCommand) (file : ℕ) (start now : Option Told) (lines : Lin
   bad_cut n part fault.TooLong lines' part_is h content more is may =
       let found = h.2 more may in
       let room : length p.given < most_lines = omega (arith, h.0, h.1, p.most, p.number) in
-      bad_at content more found.0 found.1 fault.TooLong part n is may found.2 part_is h.0 (inl (room, long_line (event_at 0 (length p.given + 1)) found.0 found.3))
+      bad_at content more found.0 found.1 fault.TooLong part n is may found.2 part_is h.0 (inl (room, long_event 0 (length p.given + 1) found.0 found.3))
   bad_cut n part fault.TooMany lines' part_is h content more is may =
       let found = h.2 more may in
       let full : most_lines ≤ length p.given = omega (arith, h.0, h.1, p.most, p.number) in
@@ -101,6 +102,6 @@ module _ (c : WindowCommand) (file : ℕ) (start now : Option Told) (lines : Lin
       let number : n ≡ length p.given + 1 = next.0 ∙ ap (λ (j : ℕ). j + 1) p.number in
       let room : length p.given < most_lines = omega (arith, next.1, p.most, number) in
       bad_at content more lines'.line (lines_of (lines'.rest ++ more)) f part k is may (next.3 more may) h.0 (h.1 ∙ next.0)
-      (inl (room, ap (λ (j : ℕ). line_at (event_at 0 j) lines'.line) (sym number) ∙ h.2))
+      (inl (room, ap (λ (j : ℕ). event_line 0 j lines'.line) (sym number) ∙ h.2))
   bad_read n lines' (Outside call spot) next h content more is may = tt
   bad_read n lines' NoMemory next h content more is may = tt

@@ -1,7 +1,7 @@
 -- When each answer of the top call comes.
 use Rattle.std.specs.Prelude.{◌≡◌, Option, Some, None, ◌⊎◌, ⊤, IsSome, IsSomeAnd}
 use Rattle.jet_lines.specs.Files.{first_bad_line, most_lines}
-use Rattle.jet_lines.specs.Readings.{event_at}
+use Rattle.jet_lines.specs.Readings.{event_line}
 use Rattle.jet_file.specs.Outside.{Told}
 use Rattle.jet_worker.specs.declared.stop.Call.TheVariants.{Open, Read}
 use Rattle.jet_worker.specs.declared.stop.Spot.TheVariants.{Job}
@@ -31,7 +31,7 @@ HasFiles (CheckOf c) told = IsSomeAnd told (HasDataFiles c)
 
 -- the file is there, and none of its lines is bad
 abbrev pub HasGoodFile : WindowCommand → Option Told → Type 0
-HasGoodFile c told = IsSomeAnd told (λ t. IsSomeAnd (t.content c.file) (λ content. first_bad_line (event_at 0) most_lines content ≡ None))
+HasGoodFile c told = IsSomeAnd told (λ t. IsSomeAnd (t.content c.file) (λ content. first_bad_line (event_line 0) most_lines content ≡ None))
 
 -- each data file that the command reads is there, and none of its lines is bad
 abbrev pub HasGoodFiles : JetCommand → Option Told → Type 0

@@ -2,7 +2,7 @@
 use Rattle.jet_laws.specs.InTime.{IsInTime}
 use Rattle.std.specs.Prelude.{◌≡◌, ℕ, Bool, false, List, ◌++◌, All, Some, None, IsSomeAnd, pos}
 use Rattle.jet_lines.specs.Files.{first_bad_line, most_lines}
-use Rattle.jet_lines.specs.Readings.{event_at}
+use Rattle.jet_lines.specs.Readings.{event_line}
 use Rattle.jet_file.specs.Headline.{Headline, IsReadWhole}
 use Rattle.jet_file.specs.Outside.{Told}
 use Rattle.jet_file.specs.declared.outside.Out.TheVariants.{Rows, Notes}
@@ -18,7 +18,7 @@ pub record IsDone (c : WindowCommand) (before now : ℕ → Bool) (old new : Tol
   pub content_is : old.content c.file ≡ Some content
   -- the file was opened by this call and read to its end, and none of its lines is bad
   pub read : IsReadWhole c.file content before now new
-  pub good : first_bad_line (event_at 0) most_lines content ≡ None
+  pub good : first_bad_line (event_line 0) most_lines content ≡ None
   -- what this call wrote
   pub rows_written : new.written Rows ≡ old.written Rows ++ rows
   pub notes_written : new.written Notes ≡ old.written Notes ++ notes

@@ -1,6 +1,6 @@
 -- Why the reading and counting of one line stops.
 use Rattle.std.specs.Prelude.{◌≡◌, ℕ, ⊤, List, Option, Some, None, Err, IsSomeAnd}
-use Rattle.jet_lines.specs.Readings.{event_at, line_at}
+use Rattle.jet_lines.specs.Readings.{event_line}
 use Rattle.jet_lines.specs.Files.{first_bad_line, most_lines}
 use Rattle.jet_lines.specs.declared.fault.LineFault.{LineFault}
 use Rattle.jet_file.specs.Outside.{Told, Goes}
@@ -18,7 +18,7 @@ use Rattle.jet_worker.specs.declared.stop.Stop.TheVariants.{BadLine, Outside, No
 
 -- where the stop is for a bad line, it is this line, which has this fault
 abbrev pub IsBadLineAt : ℕ → List ℕ → Stop → Type 0
-IsBadLineAt number line (BadLine part n why) = (part ≡ 0) × (n ≡ number) × (line_at (event_at 0 number) line ≡ Err why)
+IsBadLineAt number line (BadLine part n why) = (part ≡ 0) × (n ≡ number) × (event_line 0 number line ≡ Err why)
 IsBadLineAt number line (Outside call spot) = ⊤
 IsBadLineAt number line NoMemory = ⊤
 
@@ -28,13 +28,13 @@ LineStop number line old new stop = ((name_of : Spot → Option (List ℕ)) → 
 
 -- in this file the stop's line is the first bad one, where it is for a bad line
 abbrev pub IsBadIn : List ℕ → Stop → Type 0
-IsBadIn content (BadLine part n why) = (part ≡ 0) × (first_bad_line (event_at 0) most_lines content ≡ Some (n, why))
+IsBadIn content (BadLine part n why) = (part ≡ 0) × (first_bad_line (event_line 0) most_lines content ≡ Some (n, why))
 IsBadIn content (Outside call spot) = ⊤
 IsBadIn content NoMemory = ⊤
 
 -- that line is the first bad line of the command's file, which is part 0
 abbrev pub IsFirstBadLine : WindowCommand → ℕ → ℕ → LineFault → Told → Type 0
-IsFirstBadLine c part line why told = (part ≡ 0) × IsSomeAnd (told.content c.file) (λ content. first_bad_line (event_at 0) most_lines content ≡ Some (line, why))
+IsFirstBadLine c part line why told = (part ≡ 0) × IsSomeAnd (told.content c.file) (λ content. first_bad_line (event_line 0) most_lines content ≡ Some (line, why))
 
 -- where the stop is for a bad line, it is the first bad line of the command's file
 abbrev pub IsBadOf : WindowCommand → Told → Stop → Type 0

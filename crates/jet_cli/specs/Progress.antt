@@ -5,7 +5,7 @@ use Rattle.jet_lines.specs.Cutting.{MayCome}
 use Rattle.jet_lines.specs.Files.{are_good, events_in, most_lines}
 use Rattle.jet_lines.specs.Lines.{lines_of}
 use Rattle.jet_lines.specs.LinesValue.{LinesValue}
-use Rattle.jet_lines.specs.Readings.{event_at, line_at}
+use Rattle.jet_lines.specs.Readings.{event_line}
 use Rattle.jet_file.specs.Outside.{Told, Entry, Goes, rest_of}
 use Rattle.jet_file.specs.Text.{row_line, late_line}
 use Rattle.jet_file.specs.declared.outside.Out.TheVariants.{Rows, Notes}
@@ -40,7 +40,7 @@ pub record Progress (c : WindowCommand) (file : ℕ) (start now : Option Told) (
   pub bytes : List ℕ
   pub given : List (List ℕ)
   pub table : List RowValue
-  pub good : are_good (event_at 0) most_lines given ≡ true
+  pub good : are_good (event_line 0) most_lines given ≡ true
   pub most : lines.most ≡ most_lines
   pub number : lines.number ≡ length given
   pub cut : (more : List ℕ) → MayCome lines.ended more → lines_of (bytes ++ more) ≡ given ++ lines_of (lines.rest ++ more)
@@ -61,7 +61,7 @@ late_of_line c events (Some e) = late_text_of c events e
 pub record TookLine (c : WindowCommand) (events : List EventValue) (table : List RowValue) (number : ℕ) (line : List ℕ) (now next : Option Told) (new : WindowCounter) : Type 0 where
   pub found : Option EventValue
   pub more : List RowValue
-  pub read : line_at (event_at 0 number) line ≡ Ok found
+  pub read : event_line 0 number line ≡ Ok found
   pub counts : Counts c (events ++ option_to_list found) (table ++ more) new.marker new.window
   pub prints : Prints c new
   pub closes : ClosesOn (mark_after c events) (mark_after c (events ++ option_to_list found)) more

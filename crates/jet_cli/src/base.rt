@@ -14,13 +14,12 @@ ghost use Rattle.jet_items.specs.Ranges.{most_time};
 ghost use Rattle.jet_worker.specs.declared.stop.Spot.{Spot};
 ghost use Rattle.jet_cli.specs.Took.{IsInStep, Prints};
 ghost use Rattle.jet_cli.specs.Words.{WindowCommand};
-ghost use Rattle.jet_lines.specs.Readings.{event_at, line_at};
 
 use crate::counter::WindowCounter;
 use crate::{Spot, Stop, WindowWords};
 use jet_file::Outside;
 use jet_items::Refused;
-use jet_lines::{Cut, Lines, read_line};
+use jet_lines::{Cut, Lines, read_event};
 use jet_policy::WinPolicy;
 use jet_worker::{open_data, read_piece};
 use std::alloc::Global;
@@ -43,7 +42,7 @@ fn take_line<O: Outside>(
     ensures stop { IfErr result (LineStop number line.now (O.told out.old) (O.told out.new)) }
     ensures outcome { Outcome O.opened O.steady O.faults out.old out.new result }
 {
-    match read_line(alloc, line, 0, number) {
+    match read_event(alloc, line, 0, number) {
         Ok(Some(event)) => match counter.take(alloc, event) {
             Ok(()) => counter.write(out),
             Err(_) => Err(Stop::NoMemory),

@@ -2,7 +2,7 @@
 
 pub(crate) const BASE_JOB: &str = r#"{
   "vertices": [
-    {"name": "s", "kind": "source", "files": ["examples/t.csv"], "lag": 3},
+    {"name": "s", "kind": "source", "files": ["examples/first/t.csv"], "lag": 3},
     {"name": "a", "kind": "accumulate", "size": 10, "slide": 5},
     {"name": "w", "kind": "combine"},
     {"name": "z", "kind": "sink"}
@@ -27,8 +27,8 @@ total,3,4,4096,0
 
 pub(crate) const SENSORS_JOB: &str = r#"{
   "vertices": [
-    {"name": "readings", "kind": "source", "files": ["examples/readings.csv"], "lag": 5000},
-    {"name": "rooms", "kind": "side", "file": "examples/rooms.csv"},
+    {"name": "readings", "kind": "source", "files": ["examples/sensors/readings.csv"], "lag": 5000},
+    {"name": "rooms", "kind": "side", "file": "examples/sensors/rooms.csv"},
     {"name": "placed", "kind": "join", "parallelism": 2, "mode": "inner", "rekey": true, "fields": ["v0", "s0", "v2", "v3"]},
     {"name": "hot", "kind": "filter", "test": "v0 > v1"},
     {"name": "room_frames", "kind": "accumulate", "parallelism": 2, "size": 60000, "slide": 10000},

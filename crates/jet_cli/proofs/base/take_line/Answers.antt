@@ -1,9 +1,10 @@
 use Rattle.std.proofs.Common.{◌≡◌, ℕ, ◌<◌, Some, sym, subst, OnOk, All, Ok, Result}
 use Rattle.jet_items.specs.Values.{EventValue}
-use Rattle.jet_lines.specs.Readings.{event_at, line_at}
+use Rattle.jet_lines.specs.Readings.{event_line}
 use Rattle.jet_cli.specs.Progress.{TookLine}
 use Rattle.jet_worker.specs.declared.stop.Stop.{Stop}
-use Rattle.jet_cli.proofs.LineLemmas.{event_line, wrote_event, write_stops, wrote_nothing, on_ok_from}
+use Rattle.jet_lines.proofs.EntryLemmas.{event_place}
+use Rattle.jet_cli.proofs.LineLemmas.{wrote_event, write_stops, wrote_nothing, on_ok_from}
 use Rattle.jet_cli.proofs.base.take_line.Goals as goal
 
 pub returns-in-Ok-clause-took : goal.returns-in-Ok-clause-took
@@ -12,8 +13,8 @@ returns-in-Ok-clause-took g c = on_ok_from c.write.result (λ d is command event
     let mid = c.take.new.self in
     let new = c.write.new.self in
     let e : EventValue = c.in-Ok-Some.event in
-    let read : line_at (event_at 0 c.args.number) c.args.line.now ≡ Ok (Some e) = rw c.in-Ok-Some.field-0-is at c.in-Ok-Some.ensures in
-    let line : e.line ≡ c.args.number = event_line c.args.number c.args.line.now e read in
+    let read : event_line 0 c.args.number c.args.line.now ≡ Ok (Some e) = rw c.in-Ok-Some.field-0-is at c.in-Ok-Some.ensures in
+    let line : e.line ≡ c.args.number = (event_place 0 c.args.number c.args.line.now e read).1 in
     let before_e : All (λ (x : EventValue). x.line < e.line) events = subst (λ (n : ℕ). All (λ (x : EventValue). x.line < n) events) (sym line) before in
     subst (λ (r : Result (Unit {0}) Stop). OnOk r (TookLine command events table c.args.number c.args.line.now (g.O.Outside.told c.args.out.now) (g.O.Outside.told c.write.new.out) new)) is
     (wrote_event command events e table c.args.number c.args.line.now (g.O.Outside.told c.args.out.now) (g.O.Outside.told c.write.new.out) old mid new
