@@ -2,7 +2,7 @@
 # Writes a telemetry file of 100,000 lines to standard output, the same at each call: fifty sensors whose readings come
 # up to 40 units of time out of order, and one reading in a thousand that comes 20,000 units late.
 #
-#     examples/make-large.sh > large.csv
+#     examples/large.sh > large.csv
 #     ./jet window 10000 5000 40 large.csv 2> large.late > large.rows
 set -u
 exec awk 'BEGIN {
