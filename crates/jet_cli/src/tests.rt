@@ -148,22 +148,24 @@ fn faults_and_a_bad_line(rt: HostRuntime) -> Result<(), Fail> {
         rows: "",
         notes: "",
     };
+    let bad = |file, line| Case {
+        words: "window 10 5 3 t.csv",
+        file,
+        failing: 0,
+        status: Status::BadLine {
+            part: 0,
+            line,
+            why: LineFault::Number(0),
+        },
+        rows: "w,0,10,a,1,2,2,2\nw,5,15,a,1,2,2,2\n",
+        notes: "",
+    };
     let cases = [
         failing("window 10 5 3 u.csv", 0, fault(Call::Open, Spot::Part(0))),
         failing("window 10 5 3 t.csv", 3, fault(Call::Read, Spot::Part(0))),
         failing("window 10 5 3 t.csv", 4, fault(Call::Write, Spot::Rows)),
-        Case {
-            words: "window 10 5 3 t.csv",
-            file: b"7,a,2\n30,a,1\nx,a,1\n",
-            failing: 0,
-            status: Status::BadLine {
-                part: 0,
-                line: 3,
-                why: LineFault::Number(0),
-            },
-            rows: "w,0,10,a,1,2,2,2\nw,5,15,a,1,2,2,2\n",
-            notes: "",
-        },
+        bad(b"7,a,2\n30,a,1\nx,a,1\n", 3),
+        bad(b"7,a,2\n#idle\n30,a,1\n#idle\nx,a,1\n", 5),
     ];
     for case in &cases {
         check::<HostRuntime, Brand>(&rt, rt.alloc(), case, Blank::new(1))?;
@@ -178,9 +180,9 @@ fn fault(call: Call, file: Spot) -> Status {
 // The least value of the last window is that of its own event, and not one of an event that has left it.
 #[test]
 fn sensors_with_quotes_and_returns(rt: HostRuntime) -> Result<(), Fail> {
-    let case = Case {
+    let sensors = |file| Case {
         words: "window 60000 10000 5000 t.csv",
-        file: b"1700000000000,\"sensor-1\",215\r\n1700000004000,\"sensor-2\",198\r\n1700000012000,\"sensor-1\",217",
+        file,
         failing: 0,
         status: DONE,
         rows: "w,1699999950000,1700000010000,sensor-1,1,215,215,215
@@ -199,7 +201,18 @@ w,1700000010000,1700000070000,sensor-1,1,217,217,217
 ",
         notes: "",
     };
-    check::<HostRuntime, Brand>(&rt, rt.alloc(), &case, Blank::new(1))
+    let cases = [
+        sensors(
+            b"1700000000000,\"sensor-1\",215\r\n1700000004000,\"sensor-2\",198\r\n1700000012000,\"sensor-1\",217",
+        ),
+        sensors(
+            b"1700000000000,\"sensor-1\",215\r\n#idle\r\n1700000004000,\"sensor-2\",198\r\n#idle\r\n1700000012000,\"sensor-1\",217",
+        ),
+    ];
+    for case in &cases {
+        check::<HostRuntime, Brand>(&rt, rt.alloc(), case, Blank::new(1))?;
+    }
+    Ok(())
 }
 
 #[test]
