@@ -23,10 +23,10 @@ use Rattle.jet_stages.specs.Stamp.{unless_idle, but_idle, StampBag}
 use Rattle.jet_stages.specs.StampLaws.{bag_events, bag_others}
 use Rattle.jet_window.specs.FrameStands.{FrameBag}
 use Rattle.jet_window.specs.FrameTables.{frame_of}
-use Rattle.jet_window.specs.CombineStands.{CombineBag}
-use Rattle.jet_window.specs.LateEvents.{is_late, brought, late_by, kept_events}
+use Rattle.jet_window.specs.CombineStands.{newly, CombineBag}
+use Rattle.jet_window.specs.LateEvents.{comes_late, brought, late_by, kept_events}
 use Rattle.jet_window.specs.StageLaws.{FramesSumKept}
-use Rattle.jet_window.specs.Taken.{due_after, is_due, is_finished, last_mark, CombineInput}
+use Rattle.jet_window.specs.Taken.{due_after, is_due, is_finished, last_mark, StageInput}
 use Rattle.jet_window.specs.WindowRows.{RowsAre}
 use Rattle.jet_tasklet.specs.declared.any.AnyTasklet.{AnyTasklet}
 use Rattle.jet_tasklet.specs.declared.any.AnyTasklet.TheVariants as any
@@ -91,9 +91,9 @@ vertex_if : (vertex : ℕ) (e : EventValue) (b : Bool) (ls : List LateValue) →
 vertex_if vertex e true ls h = (refl, h)
 vertex_if vertex e false ls h = h
 
-own_lates : (vertex : ℕ) (slide : ℤ) (last : Option ℤ) (xs : List Item) → lates_of xs ≡ [] → Each (λ l. l.vertex ≡ vertex) (brought (late_by vertex slide) last xs)
+own_lates : (vertex : ℕ) (slide : ℤ) (last : Option ℤ) (xs : List Item) → lates_of xs ≡ [] → Each (λ l. l.vertex ≡ vertex) (brought (late_by vertex slide None) last xs)
 own_lates vertex slide last [] h = tt
-own_lates vertex slide last (item.Event e ∷ xs) h = vertex_if vertex e (is_late slide last e.ts) (brought (late_by vertex slide) last xs) (own_lates vertex slide last xs h)
+own_lates vertex slide last (item.Event e ∷ xs) h = vertex_if vertex e (comes_late slide None last e.ts) (brought (late_by vertex slide None) last xs) (own_lates vertex slide last xs h)
 own_lates vertex slide last (item.Side s ∷ xs) h = own_lates vertex slide last xs h
 own_lates vertex slide last (item.Frame f ∷ xs) h = own_lates vertex slide last xs h
 own_lates vertex slide last (item.Row r ∷ xs) h = own_lates vertex slide last xs h
@@ -103,18 +103,18 @@ own_lates vertex slide last (item.Mark m ∷ xs) h = own_lates vertex slide (Som
 own_lates vertex slide last (item.Done ∷ xs) h = own_lates vertex slide last xs h
 
 frame_ended : FramesSumKept → (vertex : ℕ) (slide : ℤ) (held : List FrameValue) (inputs : List InputView) (outputs : List OutputView) (taken : List Entry) (given : List Item)
-    → Over (λ taken given. FrameBag vertex slide held taken given) inputs outputs taken given
+    → Over (λ taken given. FrameBag vertex slide None held taken taken given) inputs outputs taken given
     → others_of (all_data inputs) ≡ [] → FrameEnded vertex slide inputs given
 frame_ended law vertex slide held inputs outputs taken given o none =
     let others : others_of (items_of taken) ≡ [] = empty_bag (others_of (items_of taken)) (subst (λ (xs : List Item). SameBag (others_of (items_of taken)) xs) none (kind_bag as_other (λ m. refl) refl (items_of taken) (all_data inputs) o.told.merged)) in
     let alone = none_else (items_of taken) others in
     let no_late : late_events (items_of taken) ≡ [] = ap (λ (ls : List LateValue). map (λ l. l.event) ls) alone.lates in
-    let all : SameBag (events_of (items_of taken)) (late_events given ++ kept_events slide (items_of taken)) =
-    subst (λ (es : List EventValue). SameBag es (late_events given ++ kept_events slide (items_of taken))) (ap (λ (es : List EventValue). events_of (items_of taken) ++ es) no_late ∙ append-nil (events_of (items_of taken))) o.follows.parts in
+    let all : SameBag (events_of (items_of taken)) (late_events given ++ kept_events slide None (items_of taken)) =
+    subst (λ (es : List EventValue). SameBag es (late_events given ++ kept_events slide None (items_of taken))) (ap (λ (es : List EventValue). events_of (items_of taken) ++ es) no_late ∙ append-nil (events_of (items_of taken))) o.follows.parts in
     record {
-      kept = kept_events slide (items_of taken);
+      kept = kept_events slide None (items_of taken);
       parts = SameBag-trans (SameBag-sym (kind_bag as_event (λ m. refl) refl (items_of taken) (all_data inputs) o.told.merged)) all;
-      sums = law vertex slide held o.front taken given o.follows o.parts alone.frames;
+      sums = law vertex slide None held o.front taken taken given o.follows o.parts alone.frames;
       vertices = subst (Each (λ (l : LateValue). l.vertex ≡ vertex)) (sym o.follows.lates) (own_lates vertex slide None (items_of taken) alone.lates);
       rows = o.follows.rows ∙ alone.rows;
       events = o.follows.events;
@@ -128,18 +128,18 @@ finish_last (Told t ∷ front) = finish_last front
 finish_last (Closed port q ∷ front) = finish_last front
 finish_last (Finish ∷ front) = refl
 
-combine_ended : (vertex : ℕ) (size slide : ℤ) (inputs : List InputView) (outputs : List OutputView) (taken : List Entry) (given : List Item)
-    → Over (λ taken given. CombineBag vertex size slide (due_after taken) (CombineInput taken) taken given) inputs outputs taken given
+combine_ended : (vertex : ℕ) (size slide : ℤ) (held : List FrameValue) (inputs : List InputView) (outputs : List OutputView) (taken : List Entry) (given : List Item)
+    → Over (λ taken given. CombineBag vertex size slide None [] held (due_after taken) (StageInput taken) taken given) inputs outputs taken given
     → EachReceived ClosedItems inputs → rows_of (all_data inputs) ≡ [] → CombineEnded vertex size slide inputs given
-combine_ended vertex size slide inputs outputs taken given o all none =
+combine_ended vertex size slide held inputs outputs taken given o all none =
     let no_rows : rows_of (items_of taken) ≡ [] = empty_bag (rows_of (items_of taken)) (subst (λ (rs : List RowValue). SameBag (rows_of (items_of taken)) rs) none (kind_bag as_row (λ m. refl) refl (items_of taken) (all_data inputs) o.told.merged)) in
     let own : rows_of given ≡ o.follows.own = o.follows.alone no_rows in
     record {
       frames = frames_of (items_of taken);
       took = kind_bag as_frame (λ m. refl) refl (items_of taken) (all_data inputs) o.told.merged;
-      dues = due_after taken;
+      dues = newly None (due_after taken);
       all_due = λ e. ap (λ (b : Bool). b || is_due (last_mark taken) e) (ap is_finished o.parts ∙ finish_last o.front);
-      rows = subst (RowsAre vertex size slide (due_after taken) (frames_of (items_of taken))) (sym own) (o.follows.rows (record { closed = o.told.closed all; comes = o.told.comes }));
+      rows = subst (RowsAre vertex size slide (newly None (due_after taken)) (frames_of (items_of taken))) (sym own) (o.follows.rows (record { closed = o.told.closed all; comes = o.told.comes }));
       lates = subst (λ (ls : List LateValue). SameBag ls (lates_of (all_data inputs))) (sym o.follows.lates) (kind_bag as_late (λ m. refl) refl (items_of taken) (all_data inputs) o.told.merged);
     }
 
@@ -160,4 +160,4 @@ ended law (any.Filter t) came given o = stage_ended (filter (passes t.processor.
 ended law (any.Flat t) came given o = stage_ended (flat_map (legs_give t.processor.legs.items)) (λ xs ys h. SameBag-flat_map (legs_give t.processor.legs.items) h) (inputs_view t.inputs.items) (outputs_view t.outputs.items) (told_of t came) given o.0
 ended law (any.Join t) came given o = λ none. join_ended (setting_of t.processor) (inputs_view t.inputs.items) (outputs_view t.outputs.items) (told_of t came) given o.0 none
 ended law (any.Frame t) came given o = λ none. frame_ended law t.processor.vertex t.processor.policy.slide (map (frame_of t.processor.vertex) t.processor.held.entries) (inputs_view t.inputs.items) (outputs_view t.outputs.items) (told_of t came) given o.0 none
-ended law (any.Combine t) came given o = λ closed none. combine_ended t.processor.vertex t.processor.policy.size t.processor.policy.slide (inputs_view t.inputs.items) (outputs_view t.outputs.items) (told_of t came) given o.0 closed none
+ended law (any.Combine t) came given o = λ closed none. combine_ended t.processor.vertex t.processor.policy.size t.processor.policy.slide (map (frame_of t.processor.vertex) t.processor.held.entries) (inputs_view t.inputs.items) (outputs_view t.outputs.items) (told_of t came) given o.0 closed none

@@ -1,6 +1,6 @@
 -- What a tasklet of any kind has given so far: what entered its outbox, and what each destination was sent.
 use Rattle.std.proofs.Common.{◌≡◌, ℕ, ◌+◌, ◌≤◌, Bool, true, false, cond, ℤ, List, [], ◌∷◌, ◌++◌, map, sum_by, refl, sym, ◌∙◌, ap, subst, append-nil, append_assoc, inl, inr, arith}
-use Rattle.std.specs.Prelude.{filter}
+use Rattle.std.specs.Prelude.{filter, None}
 use Rattle.std.specs.List.{flat_map}
 use Rattle.std.proofs.lemmas.List.Sums.{sum_by-append, sum_by-cons}
 use Rattle.std.proofs.lemmas.List.Concat.{flat_map-append}
@@ -23,8 +23,8 @@ use Rattle.jet_stages.specs.Stage.{StageBag}
 use Rattle.jet_stages.specs.Stamp.{unless_idle, but_idle, StampBag, StampBagAmid}
 use Rattle.jet_stages.specs.StampLaws.{bag_events, bag_others}
 use Rattle.jet_window.specs.FrameTables.{frame_of}
-use Rattle.jet_window.specs.CombineStands.{CombineBag, CombineBagAmid}
-use Rattle.jet_window.specs.Taken.{due_after, is_due, CombineInput}
+use Rattle.jet_window.specs.CombineStands.{newly, CombineBag, CombineBagAmid}
+use Rattle.jet_window.specs.Taken.{due_after, is_due, StageInput}
 use Rattle.jet_tasklet.specs.declared.any.AnyTasklet.{AnyTasklet}
 use Rattle.jet_tasklet.specs.declared.any.AnyTasklet.TheVariants as any
 use Rattle.jet_tasklet.specs.declared.arrival.Arrival.{Arrival}
@@ -62,32 +62,32 @@ sub_rows inputs told taken more given held own is parts passed =
     }
 
 -- a front of what was told came as it is to come
-front_input : (inputs : List InputView) (told taken more : List Entry) → IsTold inputs told → told ≡ taken ++ more → EachReceived ClosedItems inputs → CombineInput taken
+front_input : (inputs : List InputView) (told taken more : List Entry) → IsTold inputs told → told ≡ taken ++ more → EachReceived ClosedItems inputs → StageInput taken
 front_input inputs told taken more is parts all = record {
   closed = Closed-front (items_of taken) (items_of more) (subst ClosedItems (ap items_of parts ∙ flat_map-append entry_items taken more) (is.closed all));
   comes = λ front entry rest at. is.comes front entry (rest ++ more) (parts ∙ (ap (λ (es : List Entry). es ++ more) at ∙ append_assoc front (entry ∷ rest) more));
 }
 
-combine_part : (vertex : ℕ) (size slide : ℤ) (due : ℤ → Bool) (input : Type 0) (inputs : List InputView) (told taken more : List Entry) (given held : List Item) → IsTold inputs told → told ≡ taken ++ more
-    → (EachReceived ClosedItems inputs → input) → CombineBag vertex size slide due input taken (given ++ held) → CombineGives vertex size slide inputs given
-combine_part vertex size slide due input inputs told taken more given held is parts in_order h = record {
+combine_part : (vertex : ℕ) (size slide : ℤ) (held_yet : List FrameValue) (due : ℤ → Bool) (input : Type 0) (inputs : List InputView) (told taken more : List Entry) (given held : List Item) → IsTold inputs told → told ≡ taken ++ more
+    → (EachReceived ClosedItems inputs → input) → CombineBag vertex size slide None [] held_yet due input taken (given ++ held) → CombineGives vertex size slide inputs given
+combine_part vertex size slide held_yet due input inputs told taken more given held is parts in_order h = record {
   own = h.own;
   frames = frames_of (items_of taken);
-  due = due;
+  due = newly None due;
   results = sub_rows inputs told taken more given held h.own is parts h.passed;
   rows = λ all. h.rows (in_order all);
   took = sub_kind as_frame (λ m. refl) refl inputs told taken more (items_of taken) [] is parts (ap frames_of (append-nil (items_of taken)));
   lates = sub_kind as_late (λ m. refl) refl inputs told taken more given held is parts h.lates;
 }
 
-combine_gives : (vertex : ℕ) (size slide : ℤ) (inputs : List InputView) (told : List Entry) (given : List Item)
-    → SoFar (λ taken given. CombineBag vertex size slide (due_after taken) (CombineInput taken) taken given) (λ taken entry given. CombineBagAmid vertex size slide taken entry given) inputs told given
+combine_gives : (vertex : ℕ) (size slide : ℤ) (held_yet : List FrameValue) (inputs : List InputView) (told : List Entry) (given : List Item)
+    → SoFar (λ taken given. CombineBag vertex size slide None [] held_yet (due_after taken) (StageInput taken) taken given) (λ taken entry given. CombineBagAmid vertex size slide None [] held_yet taken entry given) inputs told given
     → CombineGives vertex size slide inputs given
-combine_gives vertex size slide inputs told given so_far =
-    by_state (λ taken given. CombineBag vertex size slide (due_after taken) (CombineInput taken) taken given) (λ taken entry given. CombineBagAmid vertex size slide taken entry given) (CombineGives vertex size slide inputs) inputs told given
-    (λ taken more given parts h. combine_part vertex size slide (due_after taken) (CombineInput taken) inputs told taken more given [] so_far.told parts (front_input inputs told taken more so_far.told parts)
-    (subst (CombineBag vertex size slide (due_after taken) (CombineInput taken) taken) (sym (append-nil given)) h))
-    (λ taken entry more given parts h. combine_part vertex size slide (is_due h.until) (CombineInput (taken ++ entry ∷ [])) inputs told taken (entry ∷ more) given (map item.Row h.ready) so_far.told parts
+combine_gives vertex size slide held_yet inputs told given so_far =
+    by_state (λ taken given. CombineBag vertex size slide None [] held_yet (due_after taken) (StageInput taken) taken given) (λ taken entry given. CombineBagAmid vertex size slide None [] held_yet taken entry given) (CombineGives vertex size slide inputs) inputs told given
+    (λ taken more given parts h. combine_part vertex size slide held_yet (due_after taken) (StageInput taken) inputs told taken more given [] so_far.told parts (front_input inputs told taken more so_far.told parts)
+    (subst (CombineBag vertex size slide None [] held_yet (due_after taken) (StageInput taken) taken) (sym (append-nil given)) h))
+    (λ taken entry more given parts h. combine_part vertex size slide held_yet (is_due h.until) (StageInput (taken ++ entry ∷ [])) inputs told taken (entry ∷ more) given (map item.Row h.ready) so_far.told parts
     (front_input inputs told (taken ++ entry ∷ []) more so_far.told (one_more told taken entry more parts)) h.bag)
     (λ given h. record {
       own = h.own;
@@ -127,7 +127,7 @@ gives (any.Flat t) came gave s =
     (inputs_view t.inputs.items) (told_of t came) (gave ++ t.outbox.items) s
 gives (any.Join t) came gave s = λ rows none whole. join_gives (setting_of t.processor) rows (inputs_view t.inputs.items) (told_of t came) (gave ++ t.outbox.items) s none whole
 gives (any.Frame t) came gave s = frame_gives t.processor.vertex t.processor.policy.slide (map (frame_of t.processor.vertex) t.processor.held.entries) (inputs_view t.inputs.items) (told_of t came) (gave ++ t.outbox.items) s
-gives (any.Combine t) came gave s = combine_gives t.processor.vertex t.processor.policy.size t.processor.policy.slide (inputs_view t.inputs.items) (told_of t came) (gave ++ t.outbox.items) s
+gives (any.Combine t) came gave s = combine_gives t.processor.vertex t.processor.policy.size t.processor.policy.slide (map (frame_of t.processor.vertex) t.processor.held.entries) (inputs_view t.inputs.items) (told_of t came) (gave ++ t.outbox.items) s
 
 -- ---- what was sent to a destination is a part of what was given
 weigh_if : (w : Item → ℕ) (b : Bool) (x : Item) (xs : List Item) → sum_by w (cond b (x ∷ []) [] ++ xs) ≤ w x + sum_by w xs
