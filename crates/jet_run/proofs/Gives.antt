@@ -10,7 +10,7 @@ use Rattle.jet_items.specs.Bag.{SameBag}
 use Rattle.jet_items.specs.Joins.{Joining, joined}
 use Rattle.jet_items.specs.Kinds.{as_event, as_frame, as_row, as_late, as_other, events_of, frames_of, rows_of, lates_of, others_of}
 use Rattle.jet_items.specs.Order.{Closed as ClosedItems}
-use Rattle.jet_items.specs.Values.{EventValue, SideValue, RowValue}
+use Rattle.jet_items.specs.Values.{EventValue, SideValue, FrameValue, RowValue}
 use Rattle.jet_items.proofs.Bags.{sum_by-flat_map}
 use Rattle.jet_items.proofs.Orders.{Closed-front}
 use Rattle.jet_boxes.specs.declared.port.Port.TheVariants.{Stream}
