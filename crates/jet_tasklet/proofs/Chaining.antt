@@ -1,5 +1,6 @@
 -- Chains of tasklets through turns and meetings.
-use Rattle.std.proofs.Common.{◌≡◌, ℕ, zero, suc, ◌<◌, List, [], ◌∷◌, ◌++◌, map, length, get_or, set, Bool, false, refl, sym, ◌∙◌, ap, subst, arith}
+use Rattle.std.proofs.Common.{◌≡◌, ℕ, zero, suc, ◌+◌, ◌-◌, ◌<◌, List, [], ◌∷◌, ◌++◌, map, length, get_or, set, take, Bool, false, refl, sym, ◌∙◌, ap, subst, arith, length-append}
+use Rattle.std.proofs.lemmas.List.{set-append_left, set-append_right, take_at}
 use Rattle.std.specs.Prelude.{Option, Some, slice_get}
 use Rattle.std.specs.List.{AllZip}
 use Rattle.jet_items.specs.declared.item.Item.{Item}
@@ -147,6 +148,35 @@ chain_put from to xs i x y lt at k f same = record {
   lawful = each_put xs i y k.lawful (f (each_get xs i x lt at k.lawful));
   linked = subst (λ (es : List Ends). AreLinked from es to) (sym (ends_put xs i x y at same)) k.linked;
 }
+
+get_left : (xs ys : List AnyTasklet) (i : ℕ) (d : AnyTasklet) → i < length xs → get_or (xs ++ ys) i d ≡ get_or xs i d
+get_left [] ys i d lt = absurd (omega (arith, lt))
+get_left (x ∷ xs) ys zero d lt = refl
+get_left (x ∷ xs) ys (suc i) d lt = get_left xs ys i d (omega (arith, lt))
+
+get_behind : (xs ys : List AnyTasklet) (n : ℕ) (d : AnyTasklet) → length xs ≡ n → get_or (xs ++ ys) n d ≡ get_or ys 0 d
+get_behind [] ys zero d len = refl
+get_behind [] ys (suc n) d len = absurd (omega (arith, len))
+get_behind (x ∷ xs) ys zero d len = absurd (omega (arith, len))
+get_behind (x ∷ xs) ys (suc n) d len = get_behind xs ys n d (omega (arith, len))
+
+-- two neighbours of a chain that is cut between them changed to others with the same ends
+pub chain_met : (from to : Ring) (xs front back rest : List AnyTasklet) (i n : ℕ) (x y g t : AnyTasklet) → xs ≡ front ++ back → length front ≡ i + 1 → 0 < length back → length xs ≡ n
+    → x ≡ get_or front i x → y ≡ get_or back 0 y → IsChain from xs to → AnyIsLawful g → AnyIsLawful t → ends_of g ≡ ends_of x → ends_of t ≡ ends_of y
+    → IsChain from (take n ((set front i g ++ set back 0 t) ++ rest)) to
+chain_met from to xs front back rest i n x y g t parts cut some len at_x at_y k lawful_g lawful_t same_g same_t =
+    let a : List AnyTasklet = set front i g in
+    let b : List AnyTasklet = set back 0 t in
+    let first : IsChain from (set (front ++ back) i g) to =
+    chain_put from to (front ++ back) i x g (omega (arith, cut, length-append front back)) (at_x ∙ sym (get_left front back i x (omega (arith, cut)))) (subst (λ (zs : List AnyTasklet). IsChain from zs to) parts k) (λ l. lawful_g) same_g in
+    let cut_a : length a ≡ i + 1 = length_put front i g ∙ cut in
+    let second : IsChain from (set (a ++ back) (i + 1) t) to =
+    chain_put from to (a ++ back) (i + 1) y t (omega (arith, cut_a, some, length-append a back)) (at_y ∙ sym (get_behind a back (i + 1) y cut_a)) (subst (λ (zs : List AnyTasklet). IsChain from zs to) (set-append_left front back i g (omega (arith, cut))) first) (λ l. lawful_t) same_t in
+    let none : (i + 1) - (i + 1) ≡ 0 = omega arith in
+    let both : IsChain from (a ++ b) to =
+    subst (λ (zs : List AnyTasklet). IsChain from zs to) (set-append_right a back (i + 1) (i + 1) t cut_a (omega arith) ∙ ap (λ (j : ℕ). a ++ set back j t) none) second in
+    let whole : length (a ++ b) ≡ n = omega (arith, length-append a b, cut_a, length_put back 0 t, ap length parts, length-append front back, cut, len) in
+    subst (λ (zs : List AnyTasklet). IsChain from zs to) (sym (take_at (a ++ b) rest n whole)) both
 
 -- what the first takes from, and what the last gives into
 pub first_takes : (from to : Ring) (xs : List AnyTasklet) (x : AnyTasklet) → x ≡ get_or xs 0 x → IsChain from xs to → (ends_of x).takes ≡ Some from

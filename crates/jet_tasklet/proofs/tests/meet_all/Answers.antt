@@ -13,6 +13,16 @@ meet_next-requires-clause-chain c =
     let begun : IsChain from (set c.args.chain.now.tasklets.items 0 c.meet_source.new.taker) to = chain_put from to c.args.chain.now.tasklets.items 0 c.index_mut.result.now c.meet_source.new.taker (omega (arith, three)) c.index_mut.ensures.value c.requires (λ l. c.meet_source.ensures.taker) c.meet_source.ensures.takes in
     (from, to, begun)
 
+pub meet_next-requires-2-clause-inside : goal.meet_next-requires-2-clause-inside
+meet_next-requires-2-clause-inside c =
+    let from : Ring = tx_ring c.args.chain.now.source in
+    let to : Ring = rx_ring c.args.chain.now.sink in
+    let three = c.requires.three in
+    let begun : IsChain from (set c.args.chain.now.tasklets.items 0 c.meet_source.new.taker) to = chain_put from to c.args.chain.now.tasklets.items 0 c.index_mut.result.now c.meet_source.new.taker (omega (arith, three)) c.index_mut.ensures.value c.requires (λ l. c.meet_source.ensures.taker) c.meet_source.ensures.takes in
+    let met : IsChain from c.meet_next.new.tasklets.items to = c.meet_next.ensures from to begun in
+    let still = met.three in
+    omega (arith, still)
+
 pub meet_next-requires-2-clause-chain : goal.meet_next-requires-2-clause-chain
 meet_next-requires-2-clause-chain c =
     let from : Ring = tx_ring c.args.chain.now.source in
