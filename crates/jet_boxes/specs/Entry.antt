@@ -7,20 +7,20 @@ use Rattle.jet_items.specs.Order.{Each}
 use Rattle.jet_boxes.specs.declared.port.Port.{Port}
 
 -- an item with its port and queue, a mark of all queues together, that a queue has ended, that all have
-pub data Entry : Type 0 where
-  Given : Port → ℕ → Item → Entry
-  Told : ℤ → Entry
-  Closed : Port → ℕ → Entry
-  Finish : Entry
+pub data CallEntry : Type 0 where
+  Given : Port → ℕ → Item → CallEntry
+  MarkTold : ℤ → CallEntry
+  QueueClosed : Port → ℕ → CallEntry
+  Finish : CallEntry
 
 -- the items and marks of what was taken, in their order
-abbrev pub entry_items : Entry → List Item
+abbrev pub entry_items : CallEntry → List Item
 entry_items (Given port queue x) = x ∷ []
-entry_items (Told t) = item.Mark t ∷ []
-entry_items (Closed port queue) = []
+entry_items (MarkTold t) = item.Mark t ∷ []
+entry_items (QueueClosed port queue) = []
 entry_items Finish = []
 
-abbrev pub items_of : List Entry → List Item
+abbrev pub items_of : List CallEntry → List Item
 items_of taken = flat_map entry_items taken
 
 -- neither a mark nor the end
@@ -45,29 +45,29 @@ NotDone item.Idle = Unit {0}
 NotDone (item.Mark m) = Unit {0}
 NotDone item.Done = ⊥
 
-abbrev pub NotFinish : Entry → Type 0
+abbrev pub NotFinish : CallEntry → Type 0
 NotFinish (Given port queue x) = Unit {0}
-NotFinish (Told t) = Unit {0}
-NotFinish (Closed port queue) = Unit {0}
+NotFinish (MarkTold t) = Unit {0}
+NotFinish (QueueClosed port queue) = Unit {0}
 NotFinish Finish = ⊥
 
 -- the entry does not say that this queue has ended
-abbrev pub NotClosed : Port → ℕ → Entry → Type 0
+abbrev pub NotClosed : Port → ℕ → CallEntry → Type 0
 NotClosed port queue (Given p q x) = Unit {0}
-NotClosed port queue (Told t) = Unit {0}
-NotClosed port queue (Closed p q) = p ≡ port → q ≡ queue → ⊥
+NotClosed port queue (MarkTold t) = Unit {0}
+NotClosed port queue (QueueClosed p q) = p ≡ port → q ≡ queue → ⊥
 NotClosed port queue Finish = Unit {0}
 
 -- an entry may come after those taken: nothing comes after the finish, nothing of a queue after its end, and only from queues that are taken from
-abbrev pub MayCome : (Port → ℕ → Type 0) → List Entry → Entry → Type 0
+abbrev pub MayCome : (Port → ℕ → Type 0) → List CallEntry → CallEntry → Type 0
 MayCome takes taken (Given port queue x) = Each NotFinish taken × takes port queue × IsData x × Each (NotClosed port queue) taken
-MayCome takes taken (Told t) = Each NotFinish taken
-MayCome takes taken (Closed port queue) = Each NotFinish taken × takes port queue × Each (NotClosed port queue) taken
+MayCome takes taken (MarkTold t) = Each NotFinish taken
+MayCome takes taken (QueueClosed port queue) = Each NotFinish taken × takes port queue × Each (NotClosed port queue) taken
 MayCome takes taken Finish = Each NotFinish taken
 
 -- each entry may come after those before it
-abbrev pub MayAll : (Port → ℕ → Type 0) → List Entry → Type 0
-MayAll takes taken = (front : List Entry) (entry : Entry) (rest : List Entry) → taken ≡ front ++ entry ∷ rest → MayCome takes front entry
+abbrev pub MayAll : (Port → ℕ → Type 0) → List CallEntry → Type 0
+MayAll takes taken = (front : List CallEntry) (entry : CallEntry) (rest : List CallEntry) → taken ≡ front ++ entry ∷ rest → MayCome takes front entry
 
 -- it takes from every queue of every port
 abbrev pub AnyQueue : Port → ℕ → Type 0

@@ -24,9 +24,9 @@ pub struct ItemBox {
 impl Model for ItemBox {
     ghost use Rattle.std.specs.Prelude.{◌≤◌, length};
     ghost use Rattle.std.specs.VecDeque.{deque_capacity};
-    ghost use Rattle.jet_boxes.specs.Held.{Held};
+    ghost use Rattle.jet_boxes.specs.Held.{BoxView};
 
-    ghost Value = { Held };
+    ghost Value = { BoxView };
 
     ghost view = { λ b. record { room = b.room; items = b.items.items } };
 

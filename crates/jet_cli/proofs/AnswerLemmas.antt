@@ -13,7 +13,7 @@ use Rattle.jet_lines.specs.Files.{first_bad_line, most_lines}
 use Rattle.jet_lines.specs.Readings.{event_line}
 use Rattle.jet_lines.specs.declared.fault.LineFault.{LineFault}
 use Rattle.jet_file.specs.Headline.{late_at}
-use Rattle.jet_file.specs.Outside.{Told, Goes}
+use Rattle.jet_file.specs.Outside.{Told, WhereTold}
 use Rattle.jet_file.specs.Text.{late_text}
 use Rattle.jet_file.specs.declared.outside.Out.TheVariants.{Notes}
 use Rattle.jet_cli.specs.Answers.{HasGoodFile}
@@ -77,7 +77,7 @@ none_bad None n why good bad = good
 none_bad (Some content) n why good bad = cc (sym good ∙ bad)
 
 -- in a good file no line is bad
-pub never_bad : (c : WindowCommand) (old new : Option Told) (p l : ℕ) (w : LineFault) → HasGoodFile c old → Goes (λ a b. IsFirstBadLine c p l w a) old new → ⊥
+pub never_bad : (c : WindowCommand) (old new : Option Told) (p l : ℕ) (w : LineFault) → HasGoodFile c old → WhereTold (λ a b. IsFirstBadLine c p l w a) old new → ⊥
 never_bad c None new p l w good h = good
 never_bad c (Some old) None p l w good h = h
 never_bad c (Some old) (Some new) p l w good h = none_bad (old.content c.file) l w good h.1

@@ -5,7 +5,7 @@ use Rattle.std.specs.Option.{unwrap_or}
 use Rattle.std.proofs.lemmas.List.Elements.{All-weaker}
 use Rattle.jet_lines.specs.declared.fault.LineFault.{LineFault}
 use Rattle.jet_file.specs.Headline.{IsReadWhole}
-use Rattle.jet_file.specs.Outside.{Told, Place, Tried, Opening, Reading, Writing, Entry, Goes, AddsNumber, LacksFile}
+use Rattle.jet_file.specs.Outside.{Told, Place, Tried, Opening, Reading, Writing, CallMade, WhereTold, AddsNumber, LacksFile}
 use Rattle.jet_file.specs.declared.outside.Out.{Out}
 use Rattle.jet_file.specs.declared.outside.Out.TheVariants as out
 use Rattle.jet_flow.specs.DataFiles.{DataFile, data_files, file_name}
@@ -24,7 +24,7 @@ use Rattle.jet_plan.specs.Faults.{fault}
 use Rattle.jet_plan.specs.declared.dag.Dag.{Dag}
 use Rattle.jet_plan.specs.declared.settings.Settings.{Settings}
 use Rattle.jet_cli.specs.CheckedJob.{CheckHalts, HasChecks, IsCheckedJob, LacksFiles, check_name, files_in, files_of}
-use Rattle.jet_cli.specs.Halting.{IsKnown, IsNoBadHalt}
+use Rattle.jet_cli.specs.inner.Halting.{IsKnown, IsNoBadHalt}
 use Rattle.jet_cli.specs.JobFiles.{ReadHalts, ReadsPlan}
 use Rattle.jet_cli.specs.declared.halt.Halt.{Halt}
 use Rattle.jet_cli.specs.declared.halt.Halt.TheVariants.{Refused, Stopped}
@@ -74,7 +74,7 @@ name_more c old h Job name is = no_name name is
 name_more c old h Rows name is = no_name name is
 name_more c old h Notes name is = no_name name is
 
-fails_named : (c : JobCommand) (old : Told) (h : HasChecks c old) (call : Call) (spot : Spot) (mid new : Told) (more : List Entry) → mid.trace ≡ old.trace ++ more
+fails_named : (c : JobCommand) (old : Told) (h : HasChecks c old) (call : Call) (spot : Spot) (mid new : Told) (more : List CallMade) → mid.trace ≡ old.trace ++ more
     → EndsFailed (name_in h.checks) call spot mid new → EndsFailed (check_name c old.content) call spot old new
 fails_named c old h call spot mid new more is f =
     let later : EndsFailed (name_in h.checks) call spot old new = stop_later (name_in h.checks) (Outside call spot) more old mid new is f in
@@ -163,7 +163,7 @@ checks_of c plan before opened a b valid r =
 -- what is said of every check of a job, where there is one
 goes_of_all : (c : JobCommand) (plan : Plan) (P : Checks → Told → Told → Type 0) (T : Told → Told → Type 0) (before opened : ℕ → Bool) → plan_valid plan
     → ((a b d : Told) (r : ReadsPlan c plan before opened a b) (h : HasChecks c a) → P h.checks b d → T a d)
-    → (old mid new : Option Told) → Goes (ReadsPlan c plan before opened) old mid → ((k : Checks) → IsCheckOf plan.dag plan.settings k → Goes (P k) mid new) → Goes T old new
+    → (old mid new : Option Told) → WhereTold (ReadsPlan c plan before opened) old mid → ((k : Checks) → IsCheckOf plan.dag plan.settings k → WhereTold (P k) mid new) → WhereTold T old new
 goes_of_all c plan P T before opened valid f None mid new r all = tt
 goes_of_all c plan P T before opened valid f (Some a) None new r all = absurd r
 goes_of_all c plan P T before opened valid f (Some a) (Some b) None r all =
@@ -173,8 +173,8 @@ goes_of_all c plan P T before opened valid f (Some a) (Some b) (Some d) r all =
     let found = checks_of c plan before opened a b valid r in
     f a b d r found.0 (all found.0.checks found.1)
 
-pub goes_checked : (c : JobCommand) (plan : Plan) (before opened now : ℕ → Bool) → plan_valid plan → (old mid new : Option Told) → Goes (ReadsPlan c plan before opened) old mid
-    → ((k : Checks) → IsCheckOf plan.dag plan.settings k → Goes (IsChecked k opened now) mid new) → Goes (IsCheckedJob c before now) old new
+pub goes_checked : (c : JobCommand) (plan : Plan) (before opened now : ℕ → Bool) → plan_valid plan → (old mid new : Option Told) → WhereTold (ReadsPlan c plan before opened) old mid
+    → ((k : Checks) → IsCheckOf plan.dag plan.settings k → WhereTold (IsChecked k opened now) mid new) → WhereTold (IsCheckedJob c before now) old new
 goes_checked c plan before opened now valid =
     goes_of_all c plan (λ k. IsChecked k opened now) (IsCheckedJob c before now) before opened valid
     (λ a b d r h k. record {
@@ -191,21 +191,21 @@ goes_checked c plan before opened now valid =
     same_some : (x y : List ℕ) → Some x ≡ Some y → x ≡ y
     same_some x y h = cc h
 
-halts_check : (c : JobCommand) (stop : Stop) (a b d : Told) (more : List Entry) → b.trace ≡ a.trace ++ more → b.content ≡ a.content → b.written ≡ a.written → (h : HasChecks c a) → CheckStops h.checks stop b d
+halts_check : (c : JobCommand) (stop : Stop) (a b d : Told) (more : List CallMade) → b.trace ≡ a.trace ++ more → b.content ≡ a.content → b.written ≡ a.written → (h : HasChecks c a) → CheckStops h.checks stop b d
     → CheckHalts c (Stopped stop) a d
 halts_check c (BadLine part line why) a b d more is kept written h s = record { job = h; bad = bad_same h.checks a b kept written part line why d s }
 halts_check c (Outside call spot) a b d more is kept written h s = fails_named c a h call spot b d more is s.0
 halts_check c NoMemory a b d more is kept written h s = tt
 
-pub goes_check_stops : (c : JobCommand) (plan : Plan) (stop : Stop) (before opened : ℕ → Bool) → plan_valid plan → (old mid new : Option Told) → Goes (ReadsPlan c plan before opened) old mid
-    → ((k : Checks) → IsCheckOf plan.dag plan.settings k → Goes (CheckStops k stop) mid new) → Goes (CheckHalts c (Stopped stop)) old new
+pub goes_check_stops : (c : JobCommand) (plan : Plan) (stop : Stop) (before opened : ℕ → Bool) → plan_valid plan → (old mid new : Option Told) → WhereTold (ReadsPlan c plan before opened) old mid
+    → ((k : Checks) → IsCheckOf plan.dag plan.settings k → WhereTold (CheckStops k stop) mid new) → WhereTold (CheckHalts c (Stopped stop)) old new
 goes_check_stops c plan stop before opened valid =
     goes_of_all c plan (λ k. CheckStops k stop) (CheckHalts c (Stopped stop)) before opened valid
     (λ a b d r h s. halts_check c stop a b d r.calls r.trace r.kept r.written h s)
 
 -- the job of files that were checked is not refused
-pub goes_check_known : (c : JobCommand) (plan : Plan) (stop : Stop) (before opened : ℕ → Bool) → plan_valid plan → (old mid new : Option Told) → Goes (ReadsPlan c plan before opened) old mid
-    → ((k : Checks) → IsCheckOf plan.dag plan.settings k → Goes (CheckStops k stop) mid new) → Goes (λ a b. IsKnown (text_refusal c.options (a.content c.job)) (Stopped stop)) old new
+pub goes_check_known : (c : JobCommand) (plan : Plan) (stop : Stop) (before opened : ℕ → Bool) → plan_valid plan → (old mid new : Option Told) → WhereTold (ReadsPlan c plan before opened) old mid
+    → ((k : Checks) → IsCheckOf plan.dag plan.settings k → WhereTold (CheckStops k stop) mid new) → WhereTold (λ a b. IsKnown (text_refusal c.options (a.content c.job)) (Stopped stop)) old new
 goes_check_known c plan stop before opened valid =
     goes_of_all c plan (λ k. CheckStops k stop) (λ a b. IsKnown (text_refusal c.options (a.content c.job)) (Stopped stop)) before opened valid
     (λ a b d r h s. none_known (text_refusal c.options (a.content c.job)) (Stopped stop) (ap (text_refusal c.options) h.content_is ∙ ap (job_refusal c.options) h.job_is ∙ ap (option_map refusal.Plan) h.valid))
@@ -217,7 +217,7 @@ halts_read c (Stopped (BadLine part line why)) a b never h = absurd never
 halts_read c (Stopped (Outside call spot)) a b never h = h.told (check_name c a.content) refl
 halts_read c (Stopped NoMemory) a b never h = tt
 
-pub goes_halts_read : (c : JobCommand) (halt : Halt) (old new : Option Told) → IsNoBadHalt halt → Goes (ReadHalts c halt) old new → Goes (CheckHalts c halt) old new
+pub goes_halts_read : (c : JobCommand) (halt : Halt) (old new : Option Told) → IsNoBadHalt halt → WhereTold (ReadHalts c halt) old new → WhereTold (CheckHalts c halt) old new
 goes_halts_read c halt old new never = goes_weaker (ReadHalts c halt) (CheckHalts c halt) (λ a b h. halts_read c halt a b never h) old new
 
 -- which file is not there
@@ -225,7 +225,7 @@ pub lacks_job : (c : JobCommand) (told : Option Told) → LacksFile c.job told �
 lacks_job c None h = tt
 lacks_job c (Some t) h = inl h
 
-pub lacks_data : (c : JobCommand) (plan : Plan) (before opened : ℕ → Bool) (old mid : Option Told) → Goes (ReadsPlan c plan before opened) old mid → LacksSome (data_files plan.dag) mid → LacksFiles c old
+pub lacks_data : (c : JobCommand) (plan : Plan) (before opened : ℕ → Bool) (old mid : Option Told) → WhereTold (ReadsPlan c plan before opened) old mid → LacksSome (data_files plan.dag) mid → LacksFiles c old
 lacks_data c plan before opened None mid r h = tt
 lacks_data c plan before opened (Some a) None r h = absurd r
 lacks_data c plan before opened (Some a) (Some b) r h =

@@ -1,7 +1,7 @@
 -- What the commands with a job file come to.
 use Rattle.std.proofs.Common.{◌≡◌, ℕ, List, [], ◌++◌, length, take, Bool, Option, Some, Ok, Err, refl, ap, sym, ◌∙◌}
 use Rattle.std.specs.Prelude.{option_map}
-use Rattle.jet_file.specs.Outside.{Told, Place, Goes}
+use Rattle.jet_file.specs.Outside.{Told, Place, WhereTold}
 use Rattle.jet_file.specs.Writing.{HasWritten}
 use Rattle.jet_file.specs.declared.outside.Out.TheVariants.{Rows, Notes}
 use Rattle.jet_items.specs.Gives.{Fails}
@@ -19,7 +19,7 @@ use Rattle.jet_plan.specs.declared.plan.Plan.{Plan}
 use Rattle.jet_plan.specs.declared.settings.Settings.{Settings}
 use Rattle.jet_worker.specs.Feeding.{WritesText}
 use Rattle.jet_worker.specs.declared.stop.Stop.{Stop}
-use Rattle.jet_cli.specs.Halting.{HaltTold}
+use Rattle.jet_cli.specs.inner.Halting.{HaltTold}
 use Rattle.jet_cli.specs.Halts.{job_halt, plan_halt}
 use Rattle.jet_cli.specs.JobFiles.{ReadHalts, ReadsJobFile, ReadsPlan, job_name, most_text}
 use Rattle.jet_cli.specs.JobWords.{JobCommand}
@@ -57,7 +57,7 @@ reads_plan c text job plan before now a b job_is dag settings r =
     }
 
 pub goes_plan : (c : JobCommand) (text : List ℕ) (job : JobText) (plan : Plan) (before now : ℕ → Bool) (old new : Option Told) → job_at text ≡ Ok job → plan.dag ≡ job.dag
-    → plan.settings ≡ with_options c.options job.settings → Goes (ReadsJobFile c.job text before now) old new → Goes (ReadsPlan c plan before now) old new
+    → plan.settings ≡ with_options c.options job.settings → WhereTold (ReadsJobFile c.job text before now) old new → WhereTold (ReadsPlan c plan before now) old new
 goes_plan c text job plan before now old new job_is dag settings =
     goes_weaker (ReadsJobFile c.job text before now) (ReadsPlan c plan before now) (λ a b r. reads_plan c text job plan before now a b job_is dag settings r) old new
 
@@ -72,8 +72,8 @@ halts_job : (c : JobCommand) (text : List ℕ) (e : Refusing JobFault) (before n
 halts_job c text (refused.Fault why) before now a b is r = (fault_of_text c.options c.job text why before now a b is r, r.written)
 halts_job c text refused.NoMemory before now a b is r = record { told = λ name_of named. tt; content = r.kept; written = r.written }
 
-pub goes_halts_job : (c : JobCommand) (text : List ℕ) (e : Refusing JobFault) (before now : ℕ → Bool) (old new : Option Told) → Fails e (job_at text) → Goes (ReadsJobFile c.job text before now) old new
-    → Goes (ReadHalts c (job_halt e)) old new
+pub goes_halts_job : (c : JobCommand) (text : List ℕ) (e : Refusing JobFault) (before now : ℕ → Bool) (old new : Option Told) → Fails e (job_at text) → WhereTold (ReadsJobFile c.job text before now) old new
+    → WhereTold (ReadHalts c (job_halt e)) old new
 goes_halts_job c text e before now old new is = goes_weaker (ReadsJobFile c.job text before now) (ReadHalts c (job_halt e)) (λ a b r. halts_job c text e before now a b is r) old new
 
 fault_of_job : (o : Options) (name text : List ℕ) (job : JobText) (why : PlanFault) (before now : ℕ → Bool) (a b : Told) → job_at text ≡ Ok job → fault job.dag (with_options o job.settings) ≡ Some why
@@ -88,7 +88,7 @@ halts_plan c text job (refused.Fault why) before now a b is first r = (fault_of_
 halts_plan c text job refused.NoMemory before now a b is first r = record { told = λ name_of named. tt; content = r.kept; written = r.written }
 
 pub goes_halts_plan : (c : JobCommand) (text : List ℕ) (job : JobText) (e : Refusing PlanFault) (before now : ℕ → Bool) (old new : Option Told) → job_at text ≡ Ok job
-    → IsFirst job.dag (with_options c.options job.settings) e → Goes (ReadsJobFile c.job text before now) old new → Goes (ReadHalts c (plan_halt e)) old new
+    → IsFirst job.dag (with_options c.options job.settings) e → WhereTold (ReadsJobFile c.job text before now) old new → WhereTold (ReadHalts c (plan_halt e)) old new
 goes_halts_plan c text job e before now old new is first =
     goes_weaker (ReadsJobFile c.job text before now) (ReadHalts c (plan_halt e)) (λ a b r. halts_plan c text job e before now a b is first r) old new
 
@@ -97,7 +97,7 @@ told_of_read : (c : JobCommand) (halt : Halt) (a b : Told) → ReadHalts c halt 
 told_of_read c (Refused why) a b h = h
 told_of_read c (Stopped stop) a b h = h.told (job_name c) refl
 
-pub goes_read_halts : (c : JobCommand) (halt : Halt) (old new : Option Told) → Goes (ReadHalts c halt) old new → Goes (λ a. HaltTold (job_name c) (text_refusal c.options (a.content c.job)) halt a) old new
+pub goes_read_halts : (c : JobCommand) (halt : Halt) (old new : Option Told) → WhereTold (ReadHalts c halt) old new → WhereTold (λ a. HaltTold (job_name c) (text_refusal c.options (a.content c.job)) halt a) old new
 goes_read_halts c halt = goes_weaker (ReadHalts c halt) (λ a. HaltTold (job_name c) (text_refusal c.options (a.content c.job)) halt a) (told_of_read c halt)
 
 -- ---- `plan`
@@ -128,13 +128,13 @@ planned c plan text before now a b d valid is r w = record {
 }
 
 pub goes_planned : (c : JobCommand) (plan : Plan) (text : List ℕ) (before now : ℕ → Bool) (old mid new : Option Told) → IsValid plan.dag plan.settings → text ≡ plan_text plan.dag plan.settings
-    → Goes (ReadsPlan c plan before now) old mid → Goes (HasWritten Rows text []) mid new → Goes (IsPlanned c before now) old new
+    → WhereTold (ReadsPlan c plan before now) old mid → WhereTold (HasWritten Rows text []) mid new → WhereTold (IsPlanned c before now) old new
 goes_planned c plan text before now old mid new valid is =
     goes_then (ReadsPlan c plan before now) (HasWritten Rows text []) (IsPlanned c before now) (λ a b d r w. planned c plan text before now a b d valid is r w) old mid new
 
 -- the writing of the plan's text stopped
-pub goes_plan_stops : (c : JobCommand) (plan : Plan) (text : List ℕ) (stop : Stop) (before now : ℕ → Bool) (old mid new : Option Told) → Goes (ReadsPlan c plan before now) old mid
-    → Goes (WritesText {T = Unit {0}} Rows text (Err stop)) mid new → Goes (λ a. HaltTold (job_name c) (text_refusal c.options (a.content c.job)) (Stopped stop) a) old new
+pub goes_plan_stops : (c : JobCommand) (plan : Plan) (text : List ℕ) (stop : Stop) (before now : ℕ → Bool) (old mid new : Option Told) → WhereTold (ReadsPlan c plan before now) old mid
+    → WhereTold (WritesText {T = Unit {0}} Rows text (Err stop)) mid new → WhereTold (λ a. HaltTold (job_name c) (text_refusal c.options (a.content c.job)) (Stopped stop) a) old new
 goes_plan_stops c plan text stop before now old mid new =
     goes_then (ReadsPlan c plan before now) (WritesText {T = Unit {0}} Rows text (Err stop)) (λ a. HaltTold (job_name c) (text_refusal c.options (a.content c.job)) (Stopped stop) a)
     (λ a b d r w. stop_later (job_name c) stop r.calls a b d r.trace (w.told (job_name c))) old mid new

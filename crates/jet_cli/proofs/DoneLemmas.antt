@@ -16,14 +16,14 @@ use Rattle.jet_lines.specs.Lines.{lines_of}
 use Rattle.jet_lines.specs.Readings.{event_line}
 use Rattle.jet_lines.proofs.FileLemmas.{all_good}
 use Rattle.jet_file.specs.Headline.{late_at, Headline}
-use Rattle.jet_file.specs.Outside.{Told, Place, OpensFile, AddsNumber, Entry, Opened, Read, rest_of}
+use Rattle.jet_file.specs.Outside.{Told, Place, OpensFile, AddsNumber, CallMade, Opened, Read, rest_of}
 use Rattle.jet_file.specs.Text.{row_line, late_line, rows_text, late_text}
 use Rattle.jet_file.specs.declared.outside.Out.TheVariants.{Rows, Notes}
 use Rattle.jet_cli.proofs.ReadLemmas.{opened_rest}
 use Rattle.jet_cli.specs.Base.{base_window, base_events, base_inflow, base_behind}
 use Rattle.jet_cli.specs.Counting.{late_among, kept_among, as_late}
 use Rattle.jet_cli.specs.Done.{IsDone}
-use Rattle.jet_cli.specs.Progress.{HasRun, base_rows_text, base_late_text}
+use Rattle.jet_cli.specs.inner.Progress.{HasRun, base_rows_text, base_late_text}
 use Rattle.jet_cli.specs.Words.{WindowCommand}
 
 -- ---- the late events
@@ -124,8 +124,8 @@ saw_all c table None closed k at h = tt
 saw_all c table (Some m) closed k at h = subst (λ (l : List ℕ). length l ≤ k) (until_text c (m -ℤ base_ahead) table at) h.0
 
 -- what each read of a source saw, as the pace of a job says it
-abbrev Keeps : WindowCommand → List RowValue → List Entry → Source → Type 0
-Keeps c table calls s = (before after : List Entry) (n : ℕ) → calls ≡ before ++ Read s.file n ∷ after
+abbrev Keeps : WindowCommand → List RowValue → List CallMade → Source → Type 0
+Keeps c table calls s = (before after : List CallMade) (n : ℕ) → calls ≡ before ++ Read s.file n ∷ after
     → IfSome (s.mark (taken_by s.file before)) (λ m. length (rows_text (base_window c ∷ []) (rows_until (m -ℤ base_ahead) table)) ≤ wrote_by Rows before)
 
 pub pace_is : (c : WindowCommand) (file : ℕ) (before now : ℕ → Bool) (old start new : Told) (bytes content : List ℕ) (closed : Option ℤ) (table : List RowValue)
@@ -133,23 +133,23 @@ pub pace_is : (c : WindowCommand) (file : ℕ) (before now : ℕ → Bool) (old 
     → KeepsPace c content table before now old new
 pace_is c file before now old start new bytes content closed table opens adds h whole at = record {
   calls = Opened c.file file ∷ h.calls;
-  trace = h.trace ∙ ap (λ (l : List Entry). l ++ h.calls) opens.trace ∙ append_assoc old.trace (Opened c.file file ∷ []) h.calls;
+  trace = h.trace ∙ ap (λ (l : List CallMade). l ++ h.calls) opens.trace ∙ append_assoc old.trace (Opened c.file file ∷ []) h.calls;
   paced = λ other fresh added named.
       subst (λ (f : ℕ). IsPaced (base_window c ∷ []) (base_source c content f ∷ []) base_ahead table (Opened c.file file ∷ h.calls)) (sym (added_one file other before now adds fresh added))
       (record { each = All-cons (Keeps c table (Opened c.file file ∷ h.calls)) (base_source c content file) [] paced (All-nil (Keeps c table (Opened c.file file ∷ h.calls))) });
 }
   where
-    shown : (front after : List Entry) (n : ℕ) → h.calls ≡ front ++ Read file n ∷ after
+    shown : (front after : List CallMade) (n : ℕ) → h.calls ≡ front ++ Read file n ∷ after
         → IfSome (base_mark c content (taken_by file front)) (λ m. length (rows_text (base_window c ∷ []) (rows_until (m -ℤ base_ahead) table)) ≤ wrote_by Rows front)
     shown front after n e =
         saw_all c table (base_mark c content (taken_by file front)) closed (wrote_by Rows front) at
         (subst (λ (s : List ℕ). IfSome (base_mark c s (taken_by file front)) (λ m. (length (base_rows_text c (rows_until (m -ℤ base_ahead) table)) ≤ wrote_by Rows front) × IsSomeAnd closed (λ t. m ≤ℤ t))) whole (h.each front after n e))
 
-    paced : (front after : List Entry) (n : ℕ) → Opened c.file file ∷ h.calls ≡ front ++ Read file n ∷ after
+    paced : (front after : List CallMade) (n : ℕ) → Opened c.file file ∷ h.calls ≡ front ++ Read file n ∷ after
         → IfSome (base_mark c content (taken_by file front)) (λ m. length (rows_text (base_window c ∷ []) (rows_until (m -ℤ base_ahead) table)) ≤ wrote_by Rows front)
     paced [] after n e = absurd (cc e)
     paced (x ∷ front) after n e =
-        subst (λ (y : Entry). IfSome (base_mark c content (taken_by file (y ∷ front))) (λ m. length (rows_text (base_window c ∷ []) (rows_until (m -ℤ base_ahead) table)) ≤ wrote_by Rows (y ∷ front)))
+        subst (λ (y : CallMade). IfSome (base_mark c content (taken_by file (y ∷ front))) (λ m. length (rows_text (base_window c ∷ []) (rows_until (m -ℤ base_ahead) table)) ≤ wrote_by Rows (y ∷ front)))
         (same_head (Opened c.file file) x h.calls (front ++ Read file n ∷ after) e)
         (shown front after n (same_tail (Opened c.file file) x h.calls (front ++ Read file n ∷ after) e))
 

@@ -1,7 +1,7 @@
 -- Which call ended a command with a job file.
 use Rattle.std.proofs.Common.{◌≡◌, ◌∙◌, Option, Some, None, sym, subst}
 use Rattle.std.specs.Prelude.{IsSomeAnd}
-use Rattle.jet_file.specs.Outside.{Told, Goes}
+use Rattle.jet_file.specs.Outside.{Told, WhereTold}
 use Rattle.jet_worker.specs.Stopping.{IsOfCall}
 use Rattle.jet_worker.specs.declared.stop.Call.{Call}
 use Rattle.jet_worker.specs.declared.stop.Call.TheVariants.{Open, Read, Write}
@@ -10,7 +10,7 @@ use Rattle.jet_worker.specs.declared.stop.Spot.TheVariants.{Job, Part, Rows, Not
 use Rattle.jet_worker.specs.declared.stop.Stop.{Stop}
 use Rattle.jet_worker.specs.declared.stop.Stop.TheVariants.{BadLine, Outside, NoMemory}
 use Rattle.jet_cli.specs.Answers.{IsForJobFile}
-use Rattle.jet_cli.specs.Halting.{IsEarly, IsKnown}
+use Rattle.jet_cli.specs.inner.Halting.{IsEarly, IsKnown}
 use Rattle.jet_cli.specs.JobWords.{JobCommand}
 use Rattle.jet_cli.specs.Refusals.{text_refusal}
 use Rattle.jet_cli.specs.declared.halt.Halt.{Halt}
@@ -83,7 +83,7 @@ unread r Write Rows cause h k = none_some r cause h k
 unread r Write Notes cause h k = none_some r cause h k
 
 -- where the job is refused, the call that ended the command was one for the job file
-pub goes_unread : (c : JobCommand) (call : Call) (spot : Spot) (old new : Option Told) → Goes (λ a b. IsKnown (text_refusal c.options (a.content c.job)) (Stopped (Outside call spot))) old new
+pub goes_unread : (c : JobCommand) (call : Call) (spot : Spot) (old new : Option Told) → WhereTold (λ a b. IsKnown (text_refusal c.options (a.content c.job)) (Stopped (Outside call spot))) old new
     → (cause : Refusal) → IsSomeAnd old (λ t. text_refusal c.options (t.content c.job) ≡ Some cause) → IsForJobFile (OutsideFault call spot)
 goes_unread c call spot None new h cause is = absurd is
 goes_unread c call spot (Some a) None h cause is = absurd h

@@ -2,7 +2,7 @@
 use Rattle.std.proofs.Common.{◌≡◌, ℕ, List, Bool, true, Option, Some, None, Result, Ok, Err, refl, ap, sym, ◌∙◌, subst, OnOk, pos, ◌≤ℤ◌, ◌<◌, ◌+◌, length, get_or, inl, inr, arith}
 use Rattle.std.specs.Prelude.{IfErr, IfSome, IsSome, IsSomeAnd, ⊤, option_map, slice_get}
 use Rattle.jet_file.specs.Headline.{WritesNothing}
-use Rattle.jet_file.specs.Outside.{Told, Goes, LacksFile}
+use Rattle.jet_file.specs.Outside.{Told, WhereTold, LacksFile}
 use Rattle.jet_worker.specs.Stopping.{EndsFailed}
 use Rattle.jet_worker.specs.declared.stop.Stop.TheVariants.{BadLine, Outside, NoMemory}
 use Rattle.jet_cli.specs.Base.{base_name}
@@ -17,7 +17,7 @@ use Rattle.std.proofs.lemmas.Option.{get_or_from_slice_get, slice_get_within}
 use Rattle.std.proofs.lemmas.List.FromFn.{get_or-enumerate_from, length-enumerate_from}
 use Rattle.jet_cli.specs.Commands.{StaysQuiet}
 use Rattle.jet_cli.specs.Done.{IsDone, IsQuiet, IsQuietInTime}
-use Rattle.jet_cli.specs.Halting.{HaltOutcome, HaltTold, IsKnown, IsNoBadHalt, IsOutsideHalt, IsRefusal}
+use Rattle.jet_cli.specs.inner.Halting.{HaltOutcome, HaltTold, IsKnown, IsNoBadHalt, IsOutsideHalt, IsRefusal}
 use Rattle.jet_cli.proofs.EarlyLemmas.{goes_unread}
 use Rattle.jet_cli.specs.JobFiles.{job_name}
 use Rattle.jet_cli.specs.JobWords.{JobCommand}
@@ -53,9 +53,9 @@ no_refusal c why none h = cc (sym (ap (option_map refusal.Plan) none) ∙ h)
 
 base_halted : (c : WindowCommand) (old now : Option Told) (same : Type 0) → (same → now ≡ old) → (halt : Halt) → (IsRefusal halt → same) → BaseHalts c old now halt → Halted (WindowOf c) old now same halt
 base_halted c old now same untold (Refused why) untouched h =
-    (h, subst (λ (n : Option Told). Goes WritesNothing old n) (sym (untold (untouched tt))) (goes_same WritesNothing (λ a. refl) old), λ none. untouched tt)
+    (h, subst (λ (n : Option Told). WhereTold WritesNothing old n) (sym (untold (untouched tt))) (goes_same WritesNothing (λ a. refl) old), λ none. untouched tt)
 base_halted c old now same untold (Stopped (BadLine p l w)) untouched h =
-    let bad : Goes (λ a b. IsFirstBadLine c p l w a) old now = goes_weaker (RunStops c (BadLine p l w)) (λ a b. IsFirstBadLine c p l w a) (λ a b s. s.1) old now h.0 in
+    let bad : WhereTold (λ a b. IsFirstBadLine c p l w a) old now = goes_weaker (RunStops c (BadLine p l w)) (λ a b. IsFirstBadLine c p l w a) (λ a b s. s.1) old now h.0 in
     (bad, λ cause is. no_refusal c cause h.1 is, λ good. never_bad c old now p l w good bad)
 base_halted c old now same untold (Stopped (Outside call spot)) untouched h =
     (goes_weaker (RunStops c (Outside call spot)) (λ a. EndsFailed (base_name c) call spot a) (λ a b s. s.0) old now h.0, λ cause is. absurd (no_refusal c cause h.1 is))
@@ -68,12 +68,12 @@ base_halted_of (Err halt) c old now same untold untouched h = base_halted c old 
 
 pub base_facts : {S : Type 0} (told : S → Option Told) (opened : S → ℕ → Bool) (steady : S → Bool) (faults : S → ℕ) (c : WindowCommand) (old now : S) (r : Result (Unit {0}) Halt)
     → OnOk r (pos 1 ≤ℤ pos c.slide)
-    → OnOk r (Goes (IsDone c (opened old) (opened now)) (told old) (told now)) → OnOk r (base_fault c ≡ None) → IfErr r (BaseHalts c (told old) (told now)) → IfErr r (λ halt. IsRefusal halt → now ≡ old)
+    → OnOk r (WhereTold (IsDone c (opened old) (opened now)) (told old) (told now)) → OnOk r (base_fault c ≡ None) → IfErr r (BaseHalts c (told old) (told now)) → IfErr r (λ halt. IsRefusal halt → now ≡ old)
     → HaltOutcome steady faults old now r → (steady old ≡ true → IfErr r (λ halt. IsOutsideHalt halt → LacksFile c.file (told old)))
     → Facts told opened steady faults (WindowOf c) old now r
 base_facts told opened steady faults c old now r slide done valid halt untouched outcome works =
-    let quiet : OnOk r (Goes (IsQuiet c) (told old) (told now)) =
-    weaker_ok r (Goes (IsDone c (opened old) (opened now)) (told old) (told now)) (Goes (IsQuiet c) (told old) (told now))
+    let quiet : OnOk r (WhereTold (IsQuiet c) (told old) (told now)) =
+    weaker_ok r (WhereTold (IsDone c (opened old) (opened now)) (told old) (told now)) (WhereTold (IsQuiet c) (told old) (told now))
     (goes_weaker (IsDone c (opened old) (opened now)) (IsQuiet c) (quiet_is c (opened old) (opened now)) (told old) (told now)) done in
     record {
       done = done;
@@ -85,7 +85,7 @@ base_facts told opened steady faults c old now r slide done valid halt untouched
       works = λ s. lacks_of r c.file (told old) (works s);
     }
   where
-    in_time_on : (r : Result (Unit {0}) Halt) → OnOk r (pos 1 ≤ℤ pos c.slide) → OnOk r (Goes (IsQuiet c) (told old) (told now)) → OnOk r (Goes (IsQuietInTime c) (told old) (told now))
+    in_time_on : (r : Result (Unit {0}) Halt) → OnOk r (pos 1 ≤ℤ pos c.slide) → OnOk r (WhereTold (IsQuiet c) (told old) (told now)) → OnOk r (WhereTold (IsQuietInTime c) (told old) (told now))
     in_time_on (Ok d) step quiet = goes_weaker (IsQuiet c) (IsQuietInTime c) (λ a b. in_time_is c a b step) (told old) (told now) quiet
     in_time_on (Err e) step quiet = tt
 
@@ -98,20 +98,20 @@ read_not_refused c before now a b r =
 none_some : (o : Option Refusal) (why : Refusal) → o ≡ None → o ≡ Some why → ⊥
 none_some o why h k = cc (sym h ∙ k)
 
-pub job_not_refused : (c : JobCommand) (why : Refusal) (before now : ℕ → Bool) (old new : Option Told) → Goes (IsJobRead c before now) old new
+pub job_not_refused : (c : JobCommand) (why : Refusal) (before now : ℕ → Bool) (old new : Option Told) → WhereTold (IsJobRead c before now) old new
     → IsSomeAnd old (λ t. text_refusal c.options (t.content c.job) ≡ Some why) → ⊥
 job_not_refused c why before now None new r is = is
 job_not_refused c why before now (Some a) None r is = r
 job_not_refused c why before now (Some a) (Some b) r is = none_some (text_refusal c.options (a.content c.job)) why (read_not_refused c before now a b r) is
 
 refused_told : (c : JobCommand) (why : Refusal) (names : Told → Told → Type 0) (old new : Option Told)
-    → Goes (λ a b. (text_refusal c.options (a.content c.job) ≡ Some why) × (b.written ≡ a.written)) old new → IfSome old (λ t. text_refusal c.options (t.content c.job) ≡ Some why)
+    → WhereTold (λ a b. (text_refusal c.options (a.content c.job) ≡ Some why) × (b.written ≡ a.written)) old new → IfSome old (λ t. text_refusal c.options (t.content c.job) ≡ Some why)
 refused_told c why names None new h = tt
 refused_told c why names (Some a) None h = absurd h
 refused_told c why names (Some a) (Some b) h = h.0
 
-plan_halted : (c : JobCommand) (old now : Option Told) (same : Type 0) (halt : Halt) → IsNoBadHalt halt → Goes (λ a b. IsKnown (text_refusal c.options (a.content c.job)) halt) old now
-    → Goes (λ a. HaltTold (job_name c) (text_refusal c.options (a.content c.job)) halt a) old now
+plan_halted : (c : JobCommand) (old now : Option Told) (same : Type 0) (halt : Halt) → IsNoBadHalt halt → WhereTold (λ a b. IsKnown (text_refusal c.options (a.content c.job)) halt) old now
+    → WhereTold (λ a. HaltTold (job_name c) (text_refusal c.options (a.content c.job)) halt a) old now
     → Halted (PlanOf c) old now same halt
 plan_halted c old now same (Refused why) never known h = (
   refused_told c why (λ a b. ⊤) old now h,
@@ -123,21 +123,21 @@ plan_halted c old now same (Stopped (Outside call spot)) never known h = (h, goe
 plan_halted c old now same (Stopped NoMemory) never known h = tt
 
 plan_halted_of : {T : Type 0} (r : Result T Halt) (c : JobCommand) (old now : Option Told) (same : Type 0) → IfErr r IsNoBadHalt
-    → IfErr r (λ halt. Goes (λ a b. IsKnown (text_refusal c.options (a.content c.job)) halt) old now)
-    → IfErr r (λ halt. Goes (λ a. HaltTold (job_name c) (text_refusal c.options (a.content c.job)) halt a) old now) → IfErr r (Halted (PlanOf c) old now same)
+    → IfErr r (λ halt. WhereTold (λ a b. IsKnown (text_refusal c.options (a.content c.job)) halt) old now)
+    → IfErr r (λ halt. WhereTold (λ a. HaltTold (job_name c) (text_refusal c.options (a.content c.job)) halt a) old now) → IfErr r (Halted (PlanOf c) old now same)
 plan_halted_of (Ok x) c old now same never known h = tt
 plan_halted_of (Err halt) c old now same never known h = plan_halted c old now same halt never known h
 
 pub plan_facts : {S : Type 0} (told : S → Option Told) (opened : S → ℕ → Bool) (steady : S → Bool) (faults : S → ℕ) (c : JobCommand) (old now : S) (r : Result (Unit {0}) Halt)
-    → OnOk r (Goes (IsPlanned c (opened old) (opened now)) (told old) (told now))
-    → IfErr r (λ halt. Goes (λ a. HaltTold (job_name c) (text_refusal c.options (a.content c.job)) halt a) (told old) (told now)) → IfErr r IsNoBadHalt
-    → IfErr r (λ halt. Goes (λ a b. IsKnown (text_refusal c.options (a.content c.job)) halt) (told old) (told now))
+    → OnOk r (WhereTold (IsPlanned c (opened old) (opened now)) (told old) (told now))
+    → IfErr r (λ halt. WhereTold (λ a. HaltTold (job_name c) (text_refusal c.options (a.content c.job)) halt a) (told old) (told now)) → IfErr r IsNoBadHalt
+    → IfErr r (λ halt. WhereTold (λ a b. IsKnown (text_refusal c.options (a.content c.job)) halt) (told old) (told now))
     → HaltOutcome steady faults old now r → (steady old ≡ true → IfErr r (λ halt. IsOutsideHalt halt → LacksFile c.job (told old)))
     → Facts told opened steady faults (PlanOf c) old now r
 plan_facts told opened steady faults c old now r done halt never known outcome works =
-    let planned : Type 0 = Goes (IsPlanned c (opened old) (opened now)) (told old) (told now) in
-    let quiet : OnOk r (Goes (StaysQuiet (PlanOf c)) (told old) (told now)) =
-    weaker_ok r planned (Goes (StaysQuiet (PlanOf c)) (told old) (told now)) (goes_weaker (IsPlanned c (opened old) (opened now)) (StaysQuiet (PlanOf c)) (λ a b p. p.notes_written) (told old) (told now)) done in
+    let planned : Type 0 = WhereTold (IsPlanned c (opened old) (opened now)) (told old) (told now) in
+    let quiet : OnOk r (WhereTold (StaysQuiet (PlanOf c)) (told old) (told now)) =
+    weaker_ok r planned (WhereTold (StaysQuiet (PlanOf c)) (told old) (told now)) (goes_weaker (IsPlanned c (opened old) (opened now)) (StaysQuiet (PlanOf c)) (λ a b p. p.notes_written) (told old) (told now)) done in
     record {
       done = done;
       quiet = quiet;
@@ -174,7 +174,7 @@ lacks_files_of (Err e) c told h = λ is. lacks_files c told (h is)
 checks_not_refused : (c : JobCommand) (a : Told) → HasChecks c a → text_refusal c.options (a.content c.job) ≡ None
 checks_not_refused c a h = ap (text_refusal c.options) h.content_is ∙ ap (job_refusal c.options) h.job_is ∙ ap (option_map refusal.Plan) h.valid
 
-check_not_refused : (c : JobCommand) (why : Refusal) (old new : Option Told) → Goes (λ a b. HasChecks c a) old new → IsSomeAnd old (λ t. text_refusal c.options (t.content c.job) ≡ Some why) → ⊥
+check_not_refused : (c : JobCommand) (why : Refusal) (old new : Option Told) → WhereTold (λ a b. HasChecks c a) old new → IsSomeAnd old (λ t. text_refusal c.options (t.content c.job) ≡ Some why) → ⊥
 check_not_refused c why None new r is = is
 check_not_refused c why (Some a) None r is = r
 check_not_refused c why (Some a) (Some b) r is = none_some (text_refusal c.options (a.content c.job)) why (checks_not_refused c a r) is
@@ -192,7 +192,7 @@ bad_not_good : (o : Option (List ℕ)) (f : List ℕ → Option (ℕ × LineFaul
 bad_not_good None f b good bad = good
 bad_not_good (Some content) f b good bad = cc (sym good ∙ bad)
 
-bad_in_good : (c : JobCommand) (part line : ℕ) (why : LineFault) (old new : Option Told) → Goes (IsBadLineOf c part line why) old new → IsSomeAnd old (AreGoodFiles c) → ⊥
+bad_in_good : (c : JobCommand) (part line : ℕ) (why : LineFault) (old new : Option Told) → WhereTold (IsBadLineOf c part line why) old new → IsSomeAnd old (AreGoodFiles c) → ⊥
 bad_in_good c part line why None new h good = good
 bad_in_good c part line why (Some a) None h good = h
 bad_in_good c part line why (Some a) (Some b) h good =
@@ -200,7 +200,7 @@ bad_in_good c part line why (Some a) (Some b) h good =
     bad_not_good (a.content (file_name h.bad.file)) (first_bad k (part, h.bad.file)) (line, why)
     (all_at (IsGood k a) k.files part h.bad.file h.bad.is (good h.job)) h.bad.bad
 
-check_halted : (c : JobCommand) (old now : Option Told) (same : Type 0) (halt : Halt) → Goes (λ a b. IsKnown (text_refusal c.options (a.content c.job)) halt) old now → Goes (CheckHalts c halt) old now → Halted (CheckOf c) old now same halt
+check_halted : (c : JobCommand) (old now : Option Told) (same : Type 0) (halt : Halt) → WhereTold (λ a b. IsKnown (text_refusal c.options (a.content c.job)) halt) old now → WhereTold (CheckHalts c halt) old now → Halted (CheckOf c) old now same halt
 check_halted c old now same (Refused why) known h = (
   refused_told c why (λ a b. ⊤) old now h,
   goes_weaker (λ a b. (text_refusal c.options (a.content c.job) ≡ Some why) × (b.written ≡ a.written)) WritesNothing (λ a b k. k.1) old now h,
@@ -215,19 +215,19 @@ check_halted c old now same (Stopped (Outside call spot)) known h = (h, goes_unr
 check_halted c old now same (Stopped NoMemory) known h = tt
 
 check_halted_of : {T : Type 0} (r : Result T Halt) (c : JobCommand) (old now : Option Told) (same : Type 0)
-    → IfErr r (λ halt. Goes (λ a b. IsKnown (text_refusal c.options (a.content c.job)) halt) old now) → IfErr r (λ halt. Goes (CheckHalts c halt) old now) → IfErr r (Halted (CheckOf c) old now same)
+    → IfErr r (λ halt. WhereTold (λ a b. IsKnown (text_refusal c.options (a.content c.job)) halt) old now) → IfErr r (λ halt. WhereTold (CheckHalts c halt) old now) → IfErr r (Halted (CheckOf c) old now same)
 check_halted_of (Ok x) c old now same known h = tt
 check_halted_of (Err halt) c old now same known h = check_halted c old now same halt known h
 
 pub check_facts : {S : Type 0} (told : S → Option Told) (opened : S → ℕ → Bool) (steady : S → Bool) (faults : S → ℕ) (c : JobCommand) (old now : S) (r : Result (Unit {0}) Halt)
-    → OnOk r (Goes (IsCheckedJob c (opened old) (opened now)) (told old) (told now)) → IfErr r (λ halt. Goes (CheckHalts c halt) (told old) (told now))
-    → IfErr r (λ halt. Goes (λ a b. IsKnown (text_refusal c.options (a.content c.job)) halt) (told old) (told now))
+    → OnOk r (WhereTold (IsCheckedJob c (opened old) (opened now)) (told old) (told now)) → IfErr r (λ halt. WhereTold (CheckHalts c halt) (told old) (told now))
+    → IfErr r (λ halt. WhereTold (λ a b. IsKnown (text_refusal c.options (a.content c.job)) halt) (told old) (told now))
     → HaltOutcome steady faults old now r → (steady old ≡ true → IfErr r (λ halt. IsOutsideHalt halt → LacksFiles c (told old)))
     → Facts told opened steady faults (CheckOf c) old now r
 check_facts told opened steady faults c old now r done halt known outcome works =
-    let checked : Type 0 = Goes (IsCheckedJob c (opened old) (opened now)) (told old) (told now) in
-    let quiet : OnOk r (Goes (StaysQuiet (CheckOf c)) (told old) (told now)) =
-    weaker_ok r checked (Goes (StaysQuiet (CheckOf c)) (told old) (told now)) (goes_weaker (IsCheckedJob c (opened old) (opened now)) (StaysQuiet (CheckOf c)) (λ a b k. k.files.notes) (told old) (told now)) done in
+    let checked : Type 0 = WhereTold (IsCheckedJob c (opened old) (opened now)) (told old) (told now) in
+    let quiet : OnOk r (WhereTold (StaysQuiet (CheckOf c)) (told old) (told now)) =
+    weaker_ok r checked (WhereTold (StaysQuiet (CheckOf c)) (told old) (told now)) (goes_weaker (IsCheckedJob c (opened old) (opened now)) (StaysQuiet (CheckOf c)) (λ a b k. k.files.notes) (told old) (told now)) done in
     record {
       done = done;
       quiet = quiet;

@@ -4,7 +4,7 @@ use Rattle.std.specs.Prelude.{◌⊎◌, nat_lt}
 use Rattle.std.proofs.Math.Seq.{take-append_seam}
 use Rattle.std.proofs.lemmas.Bool.Decides.{nat_tests}
 use Rattle.std.proofs.lemmas.List.{take_all, length-take-le}
-use Rattle.jet_file.specs.Outside.{Told, Place, Entry, Read, Opened, Goes, OpensFile, AddsNumber, rest_of}
+use Rattle.jet_file.specs.Outside.{Told, Place, CallMade, Read, Opened, WhereTold, OpensFile, AddsNumber, rest_of}
 use Rattle.jet_job.specs.Jobs.{job_at}
 use Rattle.jet_job.specs.declared.fault.JobFault.TheVariants.{Long}
 use Rattle.jet_job.specs.declared.job_text.JobText.{JobText}
@@ -12,7 +12,7 @@ use Rattle.jet_worker.specs.Feeding.{StopsAt}
 use Rattle.jet_worker.specs.declared.stop.Spot.{Spot}
 use Rattle.jet_worker.specs.declared.stop.Stop.{Stop}
 use Rattle.jet_cli.specs.JobFiles.{ReadsJobFile, most_text}
-use Rattle.jet_cli.specs.TextReading.{ReadsFront, StopsReading}
+use Rattle.jet_cli.specs.inner.TextReading.{ReadsFront, StopsReading}
 use Rattle.jet_cli.proofs.DoneLemmas.{some_of}
 use Rattle.jet_cli.proofs.GoesLemmas.{goes_then}
 use Rattle.jet_cli.proofs.ReadLemmas.{opened_rest}
@@ -51,11 +51,11 @@ reads_job_file name text file most before now a b c is adds o r =
       kept = r.read.content ∙ o.content;
       written = r.read.written ∙ o.written;
       calls = Opened name file ∷ map (Read file) r.read.counts;
-      trace = r.read.trace ∙ ap (λ (t : List Entry). t ++ map (Read file) r.read.counts) o.trace ∙ append_assoc a.trace (Opened name file ∷ []) (map (Read file) r.read.counts);
+      trace = r.read.trace ∙ ap (λ (t : List CallMade). t ++ map (Read file) r.read.counts) o.trace ∙ append_assoc a.trace (Opened name file ∷ []) (map (Read file) r.read.counts);
     }
 
-pub goes_job_file : (name text : List ℕ) (file most : ℕ) (before now : ℕ → Bool) (old mid new : Option Told) → most ≡ most_text → AddsNumber file before now → Goes (OpensFile name file) old mid
-    → Goes (ReadsFront file most text) mid new → Goes (ReadsJobFile name text before now) old new
+pub goes_job_file : (name text : List ℕ) (file most : ℕ) (before now : ℕ → Bool) (old mid new : Option Told) → most ≡ most_text → AddsNumber file before now → WhereTold (OpensFile name file) old mid
+    → WhereTold (ReadsFront file most text) mid new → WhereTold (ReadsJobFile name text before now) old new
 goes_job_file name text file most before now old mid new is adds =
     goes_then (OpensFile name file) (ReadsFront file most text) (ReadsJobFile name text before now) (λ a b c o r. reads_job_file name text file most before now a b c is adds o r) old mid new
 
@@ -69,8 +69,8 @@ stops_after spot name file stop a b c o s =
       written = s.written ∙ o.written;
     }
 
-pub goes_stops_after : (spot : Spot) (name : List ℕ) (file : ℕ) (stop : Stop) (old mid new : Option Told) → Goes (OpensFile name file) old mid → Goes (StopsReading spot file stop) mid new
-    → Goes (StopsAt spot name stop) old new
+pub goes_stops_after : (spot : Spot) (name : List ℕ) (file : ℕ) (stop : Stop) (old mid new : Option Told) → WhereTold (OpensFile name file) old mid → WhereTold (StopsReading spot file stop) mid new
+    → WhereTold (StopsAt spot name stop) old new
 goes_stops_after spot name file stop = goes_then (OpensFile name file) (StopsReading spot file stop) (StopsAt spot name stop) (stops_after spot name file stop)
 
 -- ---- the job of a text

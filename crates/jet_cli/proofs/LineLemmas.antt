@@ -3,18 +3,18 @@ use Rattle.std.proofs.Common.{◌≡◌, ℕ, Bool, true, false, ◌&&◌, List,
 use Rattle.std.specs.Prelude.{nat_le, slice_get, IfErr, IfSome, IsSomeAnd}
 use Rattle.jet_items.specs.Values.{EventValue, RowValue}
 use Rattle.jet_lines.specs.Readings.{event_line}
-use Rattle.jet_file.specs.Outside.{Told, Goes}
+use Rattle.jet_file.specs.Outside.{Told, WhereTold}
 use Rattle.jet_file.specs.declared.outside.Out.TheVariants.{Rows, Notes}
 use Rattle.jet_policy.specs.MarkerValue.{MarkerValue}
 use Rattle.jet_window.specs.Plain.{PlainValue}
 use Rattle.jet_cli.specs.Counting.{Counts, mark_after}
-use Rattle.jet_cli.specs.Ending.{Ends}
+use Rattle.jet_cli.specs.inner.Ending.{Ends}
 use Rattle.jet_worker.specs.Feeding.{Appends, Flushes}
-use Rattle.jet_cli.specs.Finished.{Finished}
+use Rattle.jet_cli.specs.inner.Finished.{Finished}
 use Rattle.jet_cli.specs.LineStops.{IsBadLineAt, LineStop}
-use Rattle.jet_cli.specs.Progress.{TookLine, base_rows_text}
+use Rattle.jet_cli.specs.inner.Progress.{TookLine, base_rows_text}
 use Rattle.jet_worker.specs.Stopping.{StopTold, IsNoBadLine}
-use Rattle.jet_cli.specs.Took.{Took, Prints, late_text_of}
+use Rattle.jet_cli.specs.inner.Took.{Took, Prints, late_text_of}
 use Rattle.jet_cli.specs.Words.{WindowCommand}
 use Rattle.jet_cli.proofs.TookLemmas.{stays}
 use Rattle.std.proofs.lemmas.List.Elements.{All-nil}
@@ -29,7 +29,7 @@ pub wrote_event : (c : WindowCommand) (events : List EventValue) (e : EventValue
     → event_line 0 n line ≡ Ok (Some e) → Took c events e table old mid → Prints c old → old.rows.items ≡ [] → old.notes.items ≡ []
     → mid.size ≡ old.size → mid.name ≡ old.name
     → new.marker ≡ mid.marker → new.window ≡ mid.window → new.size ≡ mid.size → new.name ≡ mid.name
-    → (r : Result (Unit {0}) Stop) → Goes (Flushes mid.rows.items mid.notes.items r) now next → OnOk r (new.rows.items ≡ []) → OnOk r (new.notes.items ≡ [])
+    → (r : Result (Unit {0}) Stop) → WhereTold (Flushes mid.rows.items mid.notes.items r) now next → OnOk r (new.rows.items ≡ []) → OnOk r (new.notes.items ≡ [])
     → OnOk r (TookLine c events table n line now next new)
 wrote_event c events e table n line now next old mid new read took prints no_rows no_notes s1 n1 m w s2 n2 (Ok done) told rows notes =
     let rows_are : mid.rows.items ≡ base_rows_text c took.given = took.rows ∙ ap (λ (l : List ℕ). l ++ base_rows_text c took.given) no_rows in
@@ -44,13 +44,13 @@ wrote_event c events e table n line now next old mid new read took prints no_row
       prints = record { size = s2 ∙ s1 ∙ prints.size; name = n2 ∙ n1 ∙ prints.name };
       no_rows = rows;
       no_notes = notes;
-      told = subst (λ (l : List ℕ). Goes (Appends (base_rows_text c took.given) l) now next) notes_are
-          (subst (λ (l : List ℕ). Goes (Appends l mid.notes.items) now next) rows_are told);
+      told = subst (λ (l : List ℕ). WhereTold (Appends (base_rows_text c took.given) l) now next) notes_are
+          (subst (λ (l : List ℕ). WhereTold (Appends l mid.notes.items) now next) rows_are told);
     }
 wrote_event c events e table n line now next old mid new read took prints no_rows no_notes s1 n1 m w s2 n2 (Err stop) told rows notes = tt
 
 -- the writing stopped
-pub write_stops : (rows notes : List ℕ) (n : ℕ) (line : List ℕ) (now next : Option Told) (r : Result (Unit {0}) Stop) → Goes (Flushes rows notes r) now next
+pub write_stops : (rows notes : List ℕ) (n : ℕ) (line : List ℕ) (now next : Option Told) (r : Result (Unit {0}) Stop) → WhereTold (Flushes rows notes r) now next
     → IfErr r IsNoBadLine → IfErr r (LineStop n line now next)
 write_stops rows notes n line now next (Ok done) told never = tt
 write_stops rows notes n line now next (Err (BadLine p l why)) told never = absurd never
@@ -94,20 +94,20 @@ on_ok_from (Err e) h = tt
 -- the end of the file: the last rows were written
 pub wrote_end : (c : WindowCommand) (events : List EventValue) (table : List RowValue) (now next : Option Told) (old mid : WindowCounter)
     → Finished c events table old mid → old.rows.items ≡ [] → old.notes.items ≡ []
-    → (r : Result (Unit {0}) Stop) → Goes (Flushes mid.rows.items mid.notes.items r) now next → OnOk r (Ends c events table now next)
+    → (r : Result (Unit {0}) Stop) → WhereTold (Flushes mid.rows.items mid.notes.items r) now next → OnOk r (Ends c events table now next)
 wrote_end c events table now next old mid f no_rows no_notes (Ok done) told =
     let rows_are : mid.rows.items ≡ base_rows_text c f.given = f.rows ∙ ap (λ (l : List ℕ). l ++ base_rows_text c f.given) no_rows in
     record {
       more = f.given;
       all = f.all;
       closes = f.closes;
-      told = subst (λ (l : List ℕ). Goes (Appends (base_rows_text c f.given) l) now next) (f.notes ∙ no_notes)
-          (subst (λ (l : List ℕ). Goes (Appends l mid.notes.items) now next) rows_are told);
+      told = subst (λ (l : List ℕ). WhereTold (Appends (base_rows_text c f.given) l) now next) (f.notes ∙ no_notes)
+          (subst (λ (l : List ℕ). WhereTold (Appends l mid.notes.items) now next) rows_are told);
     }
 wrote_end c events table now next old mid f no_rows no_notes (Err stop) told = tt
 
-pub end_stops : (rows notes : List ℕ) (now next : Option Told) (r : Result (Unit {0}) Stop) → Goes (Flushes rows notes r) now next → IfErr r IsNoBadLine
-    → IfErr r (λ stop. (name_of : Spot → Option (List ℕ)) → IsNoBadLine stop × Goes (StopTold name_of stop) now next)
+pub end_stops : (rows notes : List ℕ) (now next : Option Told) (r : Result (Unit {0}) Stop) → WhereTold (Flushes rows notes r) now next → IfErr r IsNoBadLine
+    → IfErr r (λ stop. (name_of : Spot → Option (List ℕ)) → IsNoBadLine stop × WhereTold (StopTold name_of stop) now next)
 end_stops rows notes now next (Ok done) told never = tt
 end_stops rows notes now next (Err stop) told never =
     λ name_of. (never, goes_weaker (Flushes {T = Unit {0}} rows notes (Err stop)) (StopTold name_of stop) (λ a b h. h.told name_of) now next told)

@@ -2,7 +2,7 @@
 use Rattle.std.proofs.Common.{◌≡◌, ℕ, Bool, Option}
 use Rattle.jet_file.specs.Outside.{Told}
 use Rattle.jet_lines.specs.LinesValue.{LinesValue}
-use Rattle.jet_cli.specs.Progress.{Progress}
+use Rattle.jet_cli.specs.inner.Progress.{Progress}
 use Rattle.jet_cli.specs.Words.{WindowCommand}
 use Rattle.jet_cli.specs.declared.counter.WindowCounter.{WindowCounter}
 

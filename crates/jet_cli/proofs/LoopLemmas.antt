@@ -14,16 +14,16 @@ use Rattle.jet_lines.proofs.CutLemmas.{strip_len}
 use Rattle.jet_lines.specs.declared.cut.Cut.TheVariants as cut
 use Rattle.jet_lines.specs.declared.fault.LineFault.{LineFault}
 use Rattle.jet_file.specs.Text.{row_line}
-use Rattle.jet_file.specs.Outside.{Told, Goes, OpensFile, AddsNumber, LacksFile}
+use Rattle.jet_file.specs.Outside.{Told, WhereTold, OpensFile, AddsNumber, LacksFile}
 use Rattle.jet_cli.proofs.GoesLemmas.{goes_same, goes_then, goes_weaker}
 use Rattle.jet_cli.specs.Counting.{Counts, late_among, mark_after}
 use Rattle.jet_cli.specs.Done.{IsDone}
-use Rattle.jet_cli.specs.Ending.{Ends}
+use Rattle.jet_cli.specs.inner.Ending.{Ends}
 use Rattle.jet_worker.specs.Feeding.{PutsPiece, StopsAt, TakesPiece}
 use Rattle.jet_cli.specs.LineStops.{LineStop, IsBadIn, IsBadLineAt, RunStops, StopsFrom}
-use Rattle.jet_cli.specs.Progress.{HasRun, Progress, TookLine, base_rows_text, base_late_text}
+use Rattle.jet_cli.specs.inner.Progress.{HasRun, Progress, TookLine, base_rows_text, base_late_text}
 use Rattle.jet_worker.specs.Stopping.{StopTold, IsForOutside, IsNoBadLine, CauseOfStop, Outcome, OpenOutcome}
-use Rattle.jet_cli.specs.Took.{Prints}
+use Rattle.jet_cli.specs.inner.Took.{Prints}
 use Rattle.jet_cli.specs.Words.{WindowCommand}
 use Rattle.jet_cli.specs.declared.counter.WindowCounter.{WindowCounter}
 use Rattle.jet_worker.specs.declared.stop.Spot.{Spot}
@@ -51,7 +51,7 @@ took_line c file start now next lines lines' w w' n line p next_is same took =
 
 -- one piece more
 pub took_piece : (c : WindowCommand) (file : ℕ) (start now next : Option Told) (lines lines1 lines' : LinesValue) (w : WindowCounter)
-    → Progress c file start now lines w → NextIs lines cut.More lines1 → PutsPiece lines1 lines' → Goes (TakesPiece file lines1 lines') now next → Progress c file start next lines' w
+    → Progress c file start now lines w → NextIs lines cut.More lines1 → PutsPiece lines1 lines' → WhereTold (TakesPiece file lines1 lines') now next → Progress c file start next lines' w
 took_piece c file start now next lines lines1 lines' w p more puts told =
     let same : lines1 ≡ lines = more.3 in
     let live : lines1.ended ≡ false = ap (λ (v : LinesValue). v.ended) same ∙ more.0 in
@@ -90,19 +90,19 @@ less_left lines lines1 lines' more puts =
 
 -- the run stops at a line that the cutter refused
 pub stops_at_cut : (c : WindowCommand) (file : ℕ) (old start now : Option Told) (lines lines' : LinesValue) (w : WindowCounter) (n : ℕ) (why : LineFault)
-    → Progress c file start now lines w → NextIs lines (cut.Bad n why) lines' → Goes (OpensFile c.file file) old start → Goes (RunStops c (BadLine 0 n why)) old now
+    → Progress c file start now lines w → NextIs lines (cut.Bad n why) lines' → WhereTold (OpensFile c.file file) old start → WhereTold (RunStops c (BadLine 0 n why)) old now
 stops_at_cut c file old start now lines lines' w n why p bad opens =
     goes_run_stops c file p.bytes lines.ended (base_rows_text c p.table) (base_late_text (late_among c (events_in most_lines 0 p.given))) (BadLine 0 n why) old start now now
     (bad_cut c file start now lines w p n 0 why lines' refl bad) opens p.told (goes_same (StopsFrom file (BadLine 0 n why)) (λ a name_of is. tt) now)
 
 -- the run stops in reading or counting a line
 pub stops_at_line : (c : WindowCommand) (file : ℕ) (old start now next : Option Told) (lines lines' : LinesValue) (w : WindowCounter) (n : ℕ) (line : List ℕ) (stop : Stop)
-    → Progress c file start now lines w → NextIs lines (cut.Line n) lines' → line ≡ lines'.line → LineStop n line now next stop → Goes (OpensFile c.file file) old start → Goes (RunStops c stop) old next
+    → Progress c file start now lines w → NextIs lines (cut.Line n) lines' → line ≡ lines'.line → LineStop n line now next stop → WhereTold (OpensFile c.file file) old start → WhereTold (RunStops c stop) old next
 stops_at_line c file old start now next lines lines' w n line stop p next_is same h opens =
     goes_run_stops c file p.bytes lines.ended (base_rows_text c p.table) (base_late_text (late_among c (events_in most_lines 0 p.given))) stop old start now next
     (bad_read c file start now lines w p n lines' stop next_is (subst (λ (l : List ℕ). IsBadLineAt n l stop) same h.1)) opens p.told (all_names file stop now next h.0)
   where
-    all_names : (file : ℕ) (stop : Stop) (now next : Option Told) → ((name_of : Spot → Option (List ℕ)) → Goes (StopTold name_of stop) now next) → Goes (StopsFrom file stop) now next
+    all_names : (file : ℕ) (stop : Stop) (now next : Option Told) → ((name_of : Spot → Option (List ℕ)) → WhereTold (StopTold name_of stop) now next) → WhereTold (StopsFrom file stop) now next
     all_names file stop None next h = tt
     all_names file stop (Some a) None h = h (λ k. None)
     all_names file stop (Some a) (Some b) h = λ name_of is. h name_of
@@ -113,56 +113,56 @@ none_bad (Outside call spot) h content = tt
 none_bad NoMemory h content = tt
 
 -- a read of the file stopped
-pub stops_read : (file : ℕ) (stop : Stop) (now next : Option Told) → Goes (λ a b. StopsAt (Part 0) (a.place file).name stop a b) now next → Goes (StopsFrom file stop) now next
+pub stops_read : (file : ℕ) (stop : Stop) (now next : Option Told) → WhereTold (λ a b. StopsAt (Part 0) (a.place file).name stop a b) now next → WhereTold (StopsFrom file stop) now next
 stops_read file stop = goes_weaker (λ a b. StopsAt (Part 0) (a.place file).name stop a b) (StopsFrom file stop) (λ a b h name_of is. h.told name_of is)
 
 -- the run stops for another cause
 pub stops_else : (c : WindowCommand) (file : ℕ) (old start now next : Option Told) (lines : LinesValue) (w : WindowCounter) (stop : Stop)
-    → Progress c file start now lines w → IsNoBadLine stop → Goes (StopsFrom file stop) now next → Goes (OpensFile c.file file) old start → Goes (RunStops c stop) old next
+    → Progress c file start now lines w → IsNoBadLine stop → WhereTold (StopsFrom file stop) now next → WhereTold (OpensFile c.file file) old start → WhereTold (RunStops c stop) old next
 stops_else c file old start now next lines w stop p never told opens =
     goes_run_stops c file p.bytes lines.ended (base_rows_text c p.table) (base_late_text (late_among c (events_in most_lines 0 p.given))) stop old start now next
     (λ content more is may. none_bad stop never content) opens p.told told
 
 pub stops_at_end : (c : WindowCommand) (file : ℕ) (old start now next : Option Told) (lines : LinesValue) (w : WindowCounter) (r : Result (Unit {0}) Stop)
-    → Progress c file start now lines w → Goes (OpensFile c.file file) old start
-    → IfErr r (λ stop. (name_of : Spot → Option (List ℕ)) → IsNoBadLine stop × Goes (StopTold name_of stop) now next) → IfErr r (λ stop. Goes (RunStops c stop) old next)
+    → Progress c file start now lines w → WhereTold (OpensFile c.file file) old start
+    → IfErr r (λ stop. (name_of : Spot → Option (List ℕ)) → IsNoBadLine stop × WhereTold (StopTold name_of stop) now next) → IfErr r (λ stop. WhereTold (RunStops c stop) old next)
 stops_at_end c file old start now next lines w (Ok d) p opens h = tt
 stops_at_end c file old start now next lines w (Err stop) p opens h =
     stops_else c file old start now next lines w stop p (h (λ k. None)).0 (all_names file stop now next (λ name_of. (h name_of).1)) opens
   where
-    all_names : (file : ℕ) (stop : Stop) (now next : Option Told) → ((name_of : Spot → Option (List ℕ)) → Goes (StopTold name_of stop) now next) → Goes (StopsFrom file stop) now next
+    all_names : (file : ℕ) (stop : Stop) (now next : Option Told) → ((name_of : Spot → Option (List ℕ)) → WhereTold (StopTold name_of stop) now next) → WhereTold (StopsFrom file stop) now next
     all_names file stop None next h = tt
     all_names file stop (Some a) None h = h (λ k. None)
     all_names file stop (Some a) (Some b) h = λ name_of is. h name_of
 
 -- two steps that both go
-goes_both : (step more : Told → Told → Type 0) (now next : Option Told) → Goes step now next → Goes more now next → Goes (λ a b. step a b × more a b) now next
+goes_both : (step more : Told → Told → Type 0) (now next : Option Told) → WhereTold step now next → WhereTold more now next → WhereTold (λ a b. step a b × more a b) now next
 goes_both step more None next h k = tt
 goes_both step more (Some a) None h k = h
 goes_both step more (Some a) (Some b) h k = (h, k)
 
 -- the run is done
 goes_done : (c : WindowCommand) (file : ℕ) (before after : ℕ → Bool) (old start now next : Option Told) (lines lines' : LinesValue) (w : WindowCounter)
-    → (p : Progress c file start now lines w) → NextIs lines cut.End lines' → Goes (OpensFile c.file file) old start → AddsNumber file before after
-    → (e : Ends c (events_in most_lines 0 p.given) p.table now next) → Goes (IsDone c before after) old next
+    → (p : Progress c file start now lines w) → NextIs lines cut.End lines' → WhereTold (OpensFile c.file file) old start → AddsNumber file before after
+    → (e : Ends c (events_in most_lines 0 p.given) p.table now next) → WhereTold (IsDone c before after) old next
 goes_done c file before after old start now next lines lines' w p end opens adds e =
     let events : List EventValue = events_in most_lines 0 p.given in
-    let run : Goes (HasRun file p.bytes lines.ended (base_rows_text c p.table ++ base_rows_text c e.more) (base_late_text (late_among c events) ++ [])) start next =
+    let run : WhereTold (HasRun file p.bytes lines.ended (base_rows_text c p.table ++ base_rows_text c e.more) (base_late_text (late_among c events) ++ [])) start next =
     goes_writes file p.bytes lines.ended (base_rows_text c p.table) (base_late_text (late_among c events)) (base_rows_text c e.more) [] start now next p.told e.told in
-    let run2 : Goes (HasRun file p.bytes true (base_rows_text c p.table ++ base_rows_text c e.more) (base_late_text (late_among c events))) start next =
-    subst (λ (l : List ℕ). Goes (HasRun file p.bytes true (base_rows_text c p.table ++ base_rows_text c e.more) l) start next) (append-nil (base_late_text (late_among c events)))
-    (subst (λ (b : Bool). Goes (HasRun file p.bytes b (base_rows_text c p.table ++ base_rows_text c e.more) (base_late_text (late_among c events) ++ [])) start next) end.0 run) in
+    let run2 : WhereTold (HasRun file p.bytes true (base_rows_text c p.table ++ base_rows_text c e.more) (base_late_text (late_among c events))) start next =
+    subst (λ (l : List ℕ). WhereTold (HasRun file p.bytes true (base_rows_text c p.table ++ base_rows_text c e.more) l) start next) (append-nil (base_late_text (late_among c events)))
+    (subst (λ (b : Bool). WhereTold (HasRun file p.bytes b (base_rows_text c p.table ++ base_rows_text c e.more) (base_late_text (late_among c events) ++ [])) start next) end.0 run) in
     let rows : base_rows_text c p.table ++ base_rows_text c e.more ≡ base_rows_text c (p.table ++ e.more) = sym (flat_map-append (row_line (codes "w") (pos c.size)) p.table e.more) in
     let closed : Option ℤ = mark_after c events in
-    let paced : Goes (HasPaced c file p.bytes closed (p.table ++ e.more)) start next = goes_paced_appends c file p.bytes closed closed p.table e.more [] start now next p.paced e.told e.closes in
+    let paced : WhereTold (HasPaced c file p.bytes closed (p.table ++ e.more)) start next = goes_paced_appends c file p.bytes closed closed p.table e.more [] start now next p.paced e.told e.closes in
     goes_then (OpensFile c.file file) (λ a b. HasRun file p.bytes true (base_rows_text c p.table ++ base_rows_text c e.more) (base_late_text (late_among c events)) a b × HasPaced c file p.bytes closed (p.table ++ e.more) a b) (IsDone c before after)
     (λ a b d o r. done_is c file before after a b d p.bytes (base_rows_text c p.table ++ base_rows_text c e.more) p.given (p.table ++ e.more) o adds r.0 rows
     (λ more may. p.cut more (λ is. may refl) ∙ ap (λ (l : List ℕ). p.given ++ lines_of (l ++ more)) end.1) p.good e.all closed r.1) old start next opens (goes_both (HasRun file p.bytes true (base_rows_text c p.table ++ base_rows_text c e.more) (base_late_text (late_among c events))) (HasPaced c file p.bytes closed (p.table ++ e.more)) start next run2 paced)
 
 pub done_at_end : (c : WindowCommand) (file : ℕ) (before after : ℕ → Bool) (old start now next : Option Told) (lines lines' : LinesValue) (w : WindowCounter) (r : Result (Unit {0}) Stop)
-    → Progress c file start now lines w → NextIs lines cut.End lines' → Goes (OpensFile c.file file) old start → AddsNumber file before after
+    → Progress c file start now lines w → NextIs lines cut.End lines' → WhereTold (OpensFile c.file file) old start → AddsNumber file before after
     → OnOk r ((c' : WindowCommand) (events : List EventValue) (table : List RowValue) → Counts c' events table w.marker w.window → Prints c' w → w.rows.items ≡ [] → w.notes.items ≡ [] → Ends c' events table now next)
-    → OnOk r (Goes (IsDone c before after) old next)
+    → OnOk r (WhereTold (IsDone c before after) old next)
 done_at_end c file before after old start now next lines lines' w (Ok d) p end opens adds ends =
     goes_done c file before after old start now next lines lines' w p end opens adds (ends c (events_in most_lines 0 p.given) p.table p.counts p.prints p.no_rows p.no_notes)
 done_at_end c file before after old start now next lines lines' w (Err stop) p end opens adds ends = tt

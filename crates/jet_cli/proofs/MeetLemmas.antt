@@ -3,16 +3,16 @@ use Rattle.std.proofs.Common.{◌≡◌, ℕ, ◌<◌, Bool, true, Option, Some,
 use Rattle.std.specs.Prelude.{IfErr, ⊤}
 use Rattle.jet_lines.specs.declared.fault.LineFault.{LineFault}
 use Rattle.jet_file.specs.Headline.{WritesNothing}
-use Rattle.jet_file.specs.Outside.{Told, Goes}
+use Rattle.jet_file.specs.Outside.{Told, WhereTold}
 use Rattle.jet_worker.specs.Stopping.{EndsFailed}
 use Rattle.jet_worker.specs.declared.stop.Call.{Call}
 use Rattle.jet_worker.specs.declared.stop.Spot.{Spot}
 use Rattle.jet_worker.specs.declared.stop.Stop.TheVariants.{BadLine, Outside, NoMemory}
 use Rattle.jet_cli.specs.Answers.{HasFiles, HasGoodFiles, HasNoJobFile, IsJobUnread}
 use Rattle.jet_cli.specs.Commands.{Finishes, HasBadLine, StaysQuiet, StaysQuietInTime, names_of}
-use Rattle.jet_cli.specs.Ended.{status_of}
-use Rattle.jet_cli.specs.Halting.{HaltOutcome, IsOutsideHalt}
-use Rattle.jet_cli.specs.Meeting.{Meets}
+use Rattle.jet_cli.specs.inner.Ended.{status_of}
+use Rattle.jet_cli.specs.inner.Halting.{HaltOutcome, IsOutsideHalt}
+use Rattle.jet_cli.specs.inner.Meeting.{Meets}
 use Rattle.jet_cli.specs.Refusals.{MayBeRefused, RefusalIs, refusal_of, base_refusal}
 use Rattle.jet_cli.specs.Words.{JetCommand, WindowOf, PlanOf, CheckOf}
 use Rattle.jet_cli.specs.declared.halt.Halt.{Halt}
@@ -22,17 +22,17 @@ use Rattle.jet_cli.specs.declared.status.Status.TheVariants as status
 
 -- what an early end says; where no job file is read and the job is refused, the outside is the same
 abbrev pub Halted : JetCommand → Option Told → Option Told → Type 0 → Halt → Type 0
-Halted c old now same (Refused why) = MayBeRefused why c old × Goes WritesNothing old now × (HasNoJobFile (Some c) → same)
+Halted c old now same (Refused why) = MayBeRefused why c old × WhereTold WritesNothing old now × (HasNoJobFile (Some c) → same)
 Halted c old now same (Stopped (BadLine part line why)) = HasBadLine c part line why old now × ((cause : Refusal) → RefusalIs (Some cause) c old → ⊥) × (HasGoodFiles c old → ⊥)
 Halted c old now same (Stopped (Outside call spot)) =
-    Goes (λ a. EndsFailed (names_of c a.content) call spot a) old now × ((cause : Refusal) → RefusalIs (Some cause) c old → IsJobUnread c (status.OutsideFault call spot))
+    WhereTold (λ a. EndsFailed (names_of c a.content) call spot a) old now × ((cause : Refusal) → RefusalIs (Some cause) c old → IsJobUnread c (status.OutsideFault call spot))
 Halted c old now same (Stopped NoMemory) = ⊤
 
 -- how a command ended
 pub record Facts {S : Type 0} (told : S → Option Told) (opened : S → ℕ → Bool) (steady : S → Bool) (faults : S → ℕ) (c : JetCommand) (old now : S) (r : Result (Unit {0}) Halt) : Type 0 where
-  pub done : OnOk r (Goes (Finishes c (opened old) (opened now)) (told old) (told now))
-  pub quiet : OnOk r (Goes (StaysQuiet c) (told old) (told now))
-  pub in_time : OnOk r (Goes (StaysQuietInTime c) (told old) (told now))
+  pub done : OnOk r (WhereTold (Finishes c (opened old) (opened now)) (told old) (told now))
+  pub quiet : OnOk r (WhereTold (StaysQuiet c) (told old) (told now))
+  pub in_time : OnOk r (WhereTold (StaysQuietInTime c) (told old) (told now))
   pub valid : OnOk r ((why : Refusal) → RefusalIs (Some why) c (told old) → ⊥)
   pub halted : IfErr r (Halted c (told old) (told now) (now ≡ old))
   pub outcome : HaltOutcome steady faults old now r
@@ -153,8 +153,8 @@ module _ {S : Type 0} (told : S → Option Told) (opened : S → ℕ → Bool) (
     every_fault = λ lt. tt;
     fault_call = λ call spot is.
         let same = same_call k call s spot is in
-        subst (λ (x : Call). Goes (λ a. EndsFailed (names_of c a.content) x spot a) (told old) (told now)) same.0
-        (subst (λ (x : Spot). Goes (λ a. EndsFailed (names_of c a.content) k x a) (told old) (told now)) same.1 f.halted.0);
+        subst (λ (x : Call). WhereTold (λ a. EndsFailed (names_of c a.content) x spot a) (told old) (told now)) same.0
+        (subst (λ (x : Spot). WhereTold (λ a. EndsFailed (names_of c a.content) k x a) (told old) (told now)) same.1 f.halted.0);
     works = λ st files is. f.works st tt files;
     complete = λ none good never. absurd (never f.outcome.cause);
   }

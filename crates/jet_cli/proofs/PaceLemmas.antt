@@ -7,7 +7,7 @@ use Rattle.std.proofs.lemmas.List.Elements.{filter-append, All-head, All-tail, A
 use Rattle.std.proofs.lemmas.List.Sums.{sum_by-cons}
 use Rattle.jet_items.specs.Values.{RowValue}
 use Rattle.jet_lines.specs.LinesValue.{LinesValue}
-use Rattle.jet_file.specs.Outside.{Told, Goes, Entry, Read, Wrote, Opened, Missed, rest_of}
+use Rattle.jet_file.specs.Outside.{Told, WhereTold, CallMade, Read, Wrote, Opened, Missed, rest_of}
 use Rattle.jet_file.specs.Pace.{taken_by, wrote_by, rows_until}
 use Rattle.jet_file.specs.Text.{row_line}
 use Rattle.jet_file.specs.declared.outside.Out.{Out}
@@ -15,16 +15,16 @@ use Rattle.jet_file.specs.declared.outside.Out.TheVariants.{Rows, Notes}
 use Rattle.jet_file.proofs.PaceLemmas.{taken_by-append, wrote_by-append}
 use Rattle.jet_worker.specs.Feeding.{Appends, TakesPiece}
 use Rattle.jet_cli.specs.Pacing.{HasPaced, base_ahead, base_mark}
-use Rattle.jet_cli.specs.Progress.{base_rows_text}
+use Rattle.jet_cli.specs.inner.Progress.{base_rows_text}
 use Rattle.jet_cli.specs.Words.{WindowCommand}
 use Rattle.jet_cli.proofs.RunLemmas.{rest_stays, cancel}
 use Rattle.jet_cli.proofs.GoesLemmas.{goes_then, goes_same}
 use Rattle.jet_lines.specs.Files.{events_in, most_lines, whole_lines}
 use Rattle.jet_cli.specs.Counting.{mark_after}
-use Rattle.jet_cli.specs.Took.{ClosesOn}
+use Rattle.jet_cli.specs.inner.Took.{ClosesOn}
 
 -- ---- where a read stands among the calls
-abbrev NoRead : List Entry → Type 0
+abbrev NoRead : List CallMade → Type 0
 NoRead [] = Unit {0}
 NoRead (Read file n ∷ calls) = ⊥
 NoRead (Opened name file ∷ calls) = NoRead calls
@@ -35,52 +35,52 @@ reads_none : (to : Out) (lengths : List ℕ) → NoRead (map (Wrote to) lengths)
 reads_none to [] = tt
 reads_none to (n ∷ lengths) = reads_none to lengths
 
-reads_none_both : (xs ys : List Entry) → NoRead xs → NoRead ys → NoRead (xs ++ ys)
+reads_none_both : (xs ys : List CallMade) → NoRead xs → NoRead ys → NoRead (xs ++ ys)
 reads_none_both [] ys h k = k
 reads_none_both (Read file n ∷ xs) ys h k = absurd h
 reads_none_both (Opened name file ∷ xs) ys h k = reads_none_both xs ys h k
 reads_none_both (Wrote to n ∷ xs) ys h k = reads_none_both xs ys h k
 reads_none_both (Missed tried ∷ xs) ys h k = reads_none_both xs ys h k
 
-pub same_head : (x y : Entry) (xs ys : List Entry) → x ∷ xs ≡ y ∷ ys → x ≡ y
+pub same_head : (x y : CallMade) (xs ys : List CallMade) → x ∷ xs ≡ y ∷ ys → x ≡ y
 same_head x y xs ys h = cc h
 
-pub same_tail : (x y : Entry) (xs ys : List Entry) → x ∷ xs ≡ y ∷ ys → xs ≡ ys
+pub same_tail : (x y : CallMade) (xs ys : List CallMade) → x ∷ xs ≡ y ∷ ys → xs ≡ ys
 same_tail x y xs ys h = cc h
 
-tail_none : (x : Entry) (xs : List Entry) → NoRead (x ∷ xs) → NoRead xs
+tail_none : (x : CallMade) (xs : List CallMade) → NoRead (x ∷ xs) → NoRead xs
 tail_none (Read file n) xs h = absurd h
 tail_none (Opened name file) xs h = h
 tail_none (Wrote to n) xs h = h
 tail_none (Missed tried) xs h = h
 
-none_splits : (ws before after : List Entry) (file n : ℕ) → NoRead ws → ws ≡ before ++ Read file n ∷ after → ⊥
+none_splits : (ws before after : List CallMade) (file n : ℕ) → NoRead ws → ws ≡ before ++ Read file n ∷ after → ⊥
 none_splits [] [] after file n h e = cc e
 none_splits [] (b ∷ before) after file n h e = cc e
 none_splits (w ∷ ws) [] after file n h e = subst NoRead e h
 none_splits (w ∷ ws) (b ∷ before) after file n h e = none_splits ws before after file n (tail_none w ws h) (same_tail w b ws (before ++ Read file n ∷ after) e)
 
 -- a read among calls with none behind them stands in front
-split_front : (xs ws before after : List Entry) (file n : ℕ) → NoRead ws → xs ++ ws ≡ before ++ Read file n ∷ after → (later : List Entry) × (xs ≡ before ++ Read file n ∷ later)
+split_front : (xs ws before after : List CallMade) (file n : ℕ) → NoRead ws → xs ++ ws ≡ before ++ Read file n ∷ after → (later : List CallMade) × (xs ≡ before ++ Read file n ∷ later)
 split_front [] ws before after file n h e = absurd (none_splits ws before after file n h e)
-split_front (x ∷ xs) ws [] after file n h e = (xs, ap (λ (y : Entry). y ∷ xs) (same_head x (Read file n) (xs ++ ws) after e))
+split_front (x ∷ xs) ws [] after file n h e = (xs, ap (λ (y : CallMade). y ∷ xs) (same_head x (Read file n) (xs ++ ws) after e))
 split_front (x ∷ xs) ws (b ∷ before) after file n h e =
     let more = split_front xs ws before after file n h (same_tail x b (xs ++ ws) (before ++ Read file n ∷ after) e) in
     let first : x ≡ b = same_head x b (xs ++ ws) (before ++ Read file n ∷ after) e in
-    (more.0, ap (λ (y : Entry). y ∷ xs) first ∙ ap (λ (l : List Entry). b ∷ l) more.1)
+    (more.0, ap (λ (y : CallMade). y ∷ xs) first ∙ ap (λ (l : List CallMade). b ∷ l) more.1)
 
 -- the last call, or one in front of it
-split_last : (xs before after : List Entry) (x y : Entry) → xs ++ x ∷ [] ≡ before ++ y ∷ after → (before ≡ xs) ⊎ ((later : List Entry) × (xs ≡ before ++ y ∷ later))
+split_last : (xs before after : List CallMade) (x y : CallMade) → xs ++ x ∷ [] ≡ before ++ y ∷ after → (before ≡ xs) ⊎ ((later : List CallMade) × (xs ≡ before ++ y ∷ later))
 split_last [] [] after x y e = inl refl
 split_last [] (b ∷ []) after x y e = absurd (cc (same_tail x b [] (y ∷ after) e))
 split_last [] (b ∷ d ∷ before) after x y e = absurd (cc (same_tail x b [] (d ∷ (before ++ y ∷ after)) e))
-split_last (z ∷ xs) [] after x y e = inr (xs, ap (λ (w : Entry). w ∷ xs) (same_head z y (xs ++ x ∷ []) after e))
+split_last (z ∷ xs) [] after x y e = inr (xs, ap (λ (w : CallMade). w ∷ xs) (same_head z y (xs ++ x ∷ []) after e))
 split_last (z ∷ xs) (b ∷ before) after x y e =
     step (split_last xs before after x y (same_tail z b (xs ++ x ∷ []) (before ++ y ∷ after) e)) (same_head z b (xs ++ x ∷ []) (before ++ y ∷ after) e)
   where
-    step : (before ≡ xs) ⊎ ((later : List Entry) × (xs ≡ before ++ y ∷ later)) → z ≡ b → (b ∷ before ≡ z ∷ xs) ⊎ ((later : List Entry) × (z ∷ xs ≡ b ∷ before ++ y ∷ later))
-    step (inl same) first = inl (ap (λ (w : Entry). w ∷ before) (sym first) ∙ ap (λ (l : List Entry). z ∷ l) same)
-    step (inr (later, is)) first = inr (later, ap (λ (w : Entry). w ∷ xs) first ∙ ap (λ (l : List Entry). b ∷ l) is)
+    step : (before ≡ xs) ⊎ ((later : List CallMade) × (xs ≡ before ++ y ∷ later)) → z ≡ b → (b ∷ before ≡ z ∷ xs) ⊎ ((later : List CallMade) × (z ∷ xs ≡ b ∷ before ++ y ∷ later))
+    step (inl same) first = inl (ap (λ (w : CallMade). w ∷ before) (sym first) ∙ ap (λ (l : List CallMade). z ∷ l) same)
+    step (inr (later, is)) first = inr (later, ap (λ (w : CallMade). w ∷ xs) first ∙ ap (λ (l : List CallMade). b ∷ l) is)
 
 -- ---- how many bytes calls moved
 wrote_rows : (lengths : List ℕ) → wrote_by Rows (map (Wrote Rows) lengths) ≡ sum lengths
@@ -91,7 +91,7 @@ wrote_notes : (lengths : List ℕ) → wrote_by Rows (map (Wrote Notes) lengths)
 wrote_notes [] = refl
 wrote_notes (n ∷ lengths) = omega (arith, wrote_notes lengths)
 
-took_none : (file : ℕ) (calls : List Entry) → NoRead calls → taken_by file calls ≡ 0
+took_none : (file : ℕ) (calls : List CallMade) → NoRead calls → taken_by file calls ≡ 0
 took_none file [] h = refl
 took_none file (Read other n ∷ calls) h = absurd h
 took_none file (Opened name other ∷ calls) h = took_none file calls h
@@ -170,7 +170,7 @@ pub paced_takes : (c : WindowCommand) (file : ℕ) (bytes piece : List ℕ) (clo
     → closed ≡ mark_after c (events_in most_lines 0 (whole_lines bytes))
     → HasPaced c file (bytes ++ piece) closed table a d
 paced_takes c file bytes piece closed table x y a b d h t is now =
-    let read : List Entry = Read file (length t.piece) ∷ [] in
+    let read : List CallMade = Read file (length t.piece) ∷ [] in
     let front : take (length bytes) (rest_of a file) ≡ bytes = ap (take (length bytes)) h.rest ∙ take_front bytes (rest_of b file) in
     let mark : base_mark c (rest_of a file) (taken_by file h.calls) ≡ closed =
     ap (λ (k : ℕ). base_mark c (rest_of a file) k) h.taken
@@ -178,18 +178,18 @@ paced_takes c file bytes piece closed table x y a b d h t is now =
     subst (λ (p : List ℕ). HasPaced c file (bytes ++ p) closed table a d) is
     (record {
       calls = h.calls ++ read;
-      trace = t.trace ∙ ap (λ (l : List Entry). l ++ read) h.trace ∙ append_assoc a.trace h.calls read;
+      trace = t.trace ∙ ap (λ (l : List CallMade). l ++ read) h.trace ∙ append_assoc a.trace h.calls read;
       rest = h.rest ∙ ap (λ (s : List ℕ). bytes ++ s) t.rest ∙ sym (append_assoc bytes t.piece (rest_of d file));
       taken = omega (arith, taken_by-append file h.calls read, took_one file (length t.piece), h.taken, length-append bytes t.piece);
       wrote = wrote_by-append Rows h.calls read ∙ omega (arith, h.wrote);
       each = λ before after n e. step before after n (split_last h.calls before after (Read file (length t.piece)) (Read file n) e) mark;
     })
   where
-    step : (before after : List Entry) (n : ℕ) → (before ≡ h.calls) ⊎ ((later : List Entry) × (h.calls ≡ before ++ Read file n ∷ later))
+    step : (before after : List CallMade) (n : ℕ) → (before ≡ h.calls) ⊎ ((later : List CallMade) × (h.calls ≡ before ++ Read file n ∷ later))
         → base_mark c (rest_of a file) (taken_by file h.calls) ≡ closed
         → IfSome (base_mark c (rest_of a file) (taken_by file before)) (λ m. (length (base_rows_text c (rows_until (m -ℤ base_ahead) table)) ≤ wrote_by Rows before) × IsSomeAnd closed (λ t. m ≤ℤ t))
     step before after n (inl same) mark =
-        subst (λ (l : List Entry). IfSome (base_mark c (rest_of a file) (taken_by file l)) (λ m. (length (base_rows_text c (rows_until (m -ℤ base_ahead) table)) ≤ wrote_by Rows l) × IsSomeAnd closed (λ t. m ≤ℤ t))) (sym same)
+        subst (λ (l : List CallMade). IfSome (base_mark c (rest_of a file) (taken_by file l)) (λ m. (length (base_rows_text c (rows_until (m -ℤ base_ahead) table)) ≤ wrote_by Rows l) × IsSomeAnd closed (λ t. m ≤ℤ t))) (sym same)
         (sees_all c (base_mark c (rest_of a file) (taken_by file h.calls)) closed table (wrote_by Rows h.calls) mark h.wrote)
     step before after n (inr (later, e)) mark = h.each before later n e
 
@@ -197,12 +197,12 @@ pub paced_appends : (c : WindowCommand) (file : ℕ) (bytes : List ℕ) (closed 
     → HasPaced c file bytes closed table a b → Appends (base_rows_text c more) notes b d
     → ClosesOn closed closed' more → HasPaced c file bytes closed' (table ++ more) a d
 paced_appends c file bytes closed closed' table more notes a b d h w on =
-    let first : List Entry = map (Wrote Notes) w.note_lengths in
-    let second : List Entry = map (Wrote Rows) w.row_lengths in
+    let first : List CallMade = map (Wrote Notes) w.note_lengths in
+    let second : List CallMade = map (Wrote Rows) w.row_lengths in
     let none : NoRead (first ++ second) = reads_none_both first second (reads_none Notes w.note_lengths) (reads_none Rows w.row_lengths) in
     record {
       calls = h.calls ++ (first ++ second);
-      trace = w.trace ∙ append_assoc b.trace first second ∙ ap (λ (l : List Entry). l ++ (first ++ second)) h.trace ∙ append_assoc a.trace h.calls (first ++ second);
+      trace = w.trace ∙ append_assoc b.trace first second ∙ ap (λ (l : List CallMade). l ++ (first ++ second)) h.trace ∙ append_assoc a.trace h.calls (first ++ second);
       rest = h.rest ∙ ap (λ (s : List ℕ). bytes ++ s) (sym (rest_stays file b d w.content w.place));
       taken = taken_by-append file h.calls (first ++ second) ∙ omega (arith, took_none file (first ++ second) none, h.taken);
       wrote = wrote_by-append Rows h.calls (first ++ second)
@@ -212,20 +212,20 @@ paced_appends c file bytes closed closed' table more notes a b d h w on =
           saw c (base_mark c (rest_of a file) (taken_by file before)) closed closed' table more (wrote_by Rows before) (h.each before parts.0 n parts.1) on.up on.later;
     }
 
-pub goes_paced_starts : (c : WindowCommand) (file : ℕ) (start : Option Told) → Goes (HasPaced c file [] None []) start start
+pub goes_paced_starts : (c : WindowCommand) (file : ℕ) (start : Option Told) → WhereTold (HasPaced c file [] None []) start start
 goes_paced_starts c file start = goes_same (HasPaced c file [] None []) (paced_starts c file) start
 
 pub goes_paced_takes : (c : WindowCommand) (file : ℕ) (bytes piece : List ℕ) (closed : Option ℤ) (table : List RowValue) (x y : LinesValue) (start now next : Option Told)
-    → Goes (HasPaced c file bytes closed table) start now → Goes (TakesPiece file x y) now next → y.rest ≡ x.rest ++ piece
+    → WhereTold (HasPaced c file bytes closed table) start now → WhereTold (TakesPiece file x y) now next → y.rest ≡ x.rest ++ piece
     → closed ≡ mark_after c (events_in most_lines 0 (whole_lines bytes))
-    → Goes (HasPaced c file (bytes ++ piece) closed table) start next
+    → WhereTold (HasPaced c file (bytes ++ piece) closed table) start next
 goes_paced_takes c file bytes piece closed table x y start now next paced told is mark =
     goes_then (HasPaced c file bytes closed table) (TakesPiece file x y) (HasPaced c file (bytes ++ piece) closed table)
     (λ a b d h t. paced_takes c file bytes piece closed table x y a b d h t (cancel x.rest t.piece piece (sym t.lines ∙ is)) mark) start now next paced told
 
 pub goes_paced_appends : (c : WindowCommand) (file : ℕ) (bytes : List ℕ) (closed closed' : Option ℤ) (table more : List RowValue) (notes : List ℕ) (start now next : Option Told)
-    → Goes (HasPaced c file bytes closed table) start now → Goes (Appends (base_rows_text c more) notes) now next → ClosesOn closed closed' more
-    → Goes (HasPaced c file bytes closed' (table ++ more)) start next
+    → WhereTold (HasPaced c file bytes closed table) start now → WhereTold (Appends (base_rows_text c more) notes) now next → ClosesOn closed closed' more
+    → WhereTold (HasPaced c file bytes closed' (table ++ more)) start next
 goes_paced_appends c file bytes closed closed' table more notes start now next paced told on =
     goes_then (HasPaced c file bytes closed table) (Appends (base_rows_text c more) notes) (HasPaced c file bytes closed' (table ++ more))
     (λ a b d h w. paced_appends c file bytes closed closed' table more notes a b d h w on) start now next paced told

@@ -12,12 +12,12 @@ use Rattle.jet_lines.specs.LinesValue.{LinesValue}
 use Rattle.jet_lines.specs.Readings.{event_line}
 use Rattle.jet_lines.specs.declared.cut.Cut.TheVariants as cut
 use Rattle.jet_lines.proofs.FileLemmas.{good_more, numbered_fits}
-use Rattle.jet_file.specs.Outside.{Told, Goes}
+use Rattle.jet_file.specs.Outside.{Told, WhereTold}
 use Rattle.jet_file.specs.Text.{row_line, late_line}
 use Rattle.jet_cli.specs.Counting.{Counts, late_among, mark_after}
 use Rattle.jet_worker.specs.Feeding.{PutsPiece, TakesPiece}
-use Rattle.jet_cli.specs.Progress.{HasRun, Progress, TookLine, base_rows_text, base_late_text, late_of_line}
-use Rattle.jet_cli.specs.Took.{Prints}
+use Rattle.jet_cli.specs.inner.Progress.{HasRun, Progress, TookLine, base_rows_text, base_late_text, late_of_line}
+use Rattle.jet_cli.specs.inner.Took.{Prints}
 use Rattle.jet_cli.specs.Pacing.{HasPaced}
 use Rattle.jet_cli.specs.Words.{WindowCommand}
 use Rattle.jet_cli.proofs.PaceLemmas.{goes_paced_starts, goes_paced_takes, goes_paced_appends}
@@ -72,9 +72,9 @@ progress_line c file start now next lines lines' w w' n p next_is t =
     let rows : base_rows_text c (p.table ++ t.more) ≡ base_rows_text c p.table ++ base_rows_text c t.more = flat_map-append (row_line (codes "w") (pos c.size)) p.table t.more in
     let notes : base_late_text (late_among c (events ++ option_to_list t.found)) ≡ base_late_text (late_among c events) ++ late_of_line c events t.found =
     late_text_more c events t.found n lines'.line t.read before in
-    let paced : Goes (HasPaced c file p.bytes (mark_after c (events ++ option_to_list t.found)) (p.table ++ t.more)) start next =
+    let paced : WhereTold (HasPaced c file p.bytes (mark_after c (events ++ option_to_list t.found)) (p.table ++ t.more)) start next =
     goes_paced_appends c file p.bytes (mark_after c events) (mark_after c (events ++ option_to_list t.found)) p.table t.more (late_of_line c events t.found) start now next p.paced t.told t.closes in
-    let told : Goes (HasRun file p.bytes lines.ended (base_rows_text c p.table ++ base_rows_text c t.more) (base_late_text (late_among c events) ++ late_of_line c events t.found)) start next =
+    let told : WhereTold (HasRun file p.bytes lines.ended (base_rows_text c p.table ++ base_rows_text c t.more) (base_late_text (late_among c events) ++ late_of_line c events t.found)) start next =
     goes_writes file p.bytes lines.ended (base_rows_text c p.table) (base_late_text (late_among c events)) (base_rows_text c t.more) (late_of_line c events t.found) start now next p.told t.told in
     record {
       bytes = p.bytes;
@@ -91,11 +91,11 @@ progress_line c file start now next lines lines' w w' n p next_is t =
       prints = t.prints;
       no_rows = t.no_rows;
       no_notes = t.no_notes;
-      told = subst (λ (b : Bool). Goes (HasRun file p.bytes b (base_rows_text c (p.table ++ t.more)) (base_late_text (late_among c (events_in most_lines 0 given)))) start next) (sym ended)
-          (subst (λ (es : List EventValue). Goes (HasRun file p.bytes lines.ended (base_rows_text c (p.table ++ t.more)) (base_late_text (late_among c es))) start next) (sym more.1)
-          (subst (λ (l : List ℕ). Goes (HasRun file p.bytes lines.ended (base_rows_text c (p.table ++ t.more)) l) start next) (sym notes)
-          (subst (λ (l : List ℕ). Goes (HasRun file p.bytes lines.ended l (base_late_text (late_among c events) ++ late_of_line c events t.found)) start next) (sym rows) told)));
-      paced = subst (λ (es : List EventValue). Goes (HasPaced c file p.bytes (mark_after c es) (p.table ++ t.more)) start next) (sym more.1) paced;
+      told = subst (λ (b : Bool). WhereTold (HasRun file p.bytes b (base_rows_text c (p.table ++ t.more)) (base_late_text (late_among c (events_in most_lines 0 given)))) start next) (sym ended)
+          (subst (λ (es : List EventValue). WhereTold (HasRun file p.bytes lines.ended (base_rows_text c (p.table ++ t.more)) (base_late_text (late_among c es))) start next) (sym more.1)
+          (subst (λ (l : List ℕ). WhereTold (HasRun file p.bytes lines.ended (base_rows_text c (p.table ++ t.more)) l) start next) (sym notes)
+          (subst (λ (l : List ℕ). WhereTold (HasRun file p.bytes lines.ended l (base_late_text (late_among c events) ++ late_of_line c events t.found)) start next) (sym rows) told)));
+      paced = subst (λ (es : List EventValue). WhereTold (HasPaced c file p.bytes (mark_after c es) (p.table ++ t.more)) start next) (sym more.1) paced;
     }
 
 false_is : {P : Type 0} (b : Bool) → b ≡ false → b ≡ true → P
@@ -103,7 +103,7 @@ false_is b f t = absurd (cc)
 
 progress_put : (c : WindowCommand) (file : ℕ) (start now next : Option Told) (lines lines' : LinesValue) (w : WindowCounter) (piece : List ℕ)
     → (p : Progress c file start now lines w) → lines.ended ≡ false → NoFeed lines.rest (length lines.rest) → lines'.rest ≡ lines.rest ++ piece → lines'.most ≡ lines.most → lines'.number ≡ lines.number
-    → Goes (TakesPiece file lines lines') now next → Progress c file start next lines' w
+    → WhereTold (TakesPiece file lines lines') now next → Progress c file start next lines' w
 progress_put c file start now next lines lines' w piece p live none rest most number told = record {
   bytes = p.bytes ++ piece;
   given = p.given;
@@ -126,7 +126,7 @@ progress_put c file start now next lines lines' w piece p live none rest most nu
 
 -- one piece more, or the end of the file
 pub progress_more : (c : WindowCommand) (file : ℕ) (start now next : Option Told) (lines lines' : LinesValue) (w : WindowCounter)
-    → Progress c file start now lines w → lines.ended ≡ false → NoFeed lines.rest (length lines.rest) → PutsPiece lines lines' → Goes (TakesPiece file lines lines') now next → Progress c file start next lines' w
+    → Progress c file start now lines w → lines.ended ≡ false → NoFeed lines.rest (length lines.rest) → PutsPiece lines lines' → WhereTold (TakesPiece file lines lines') now next → Progress c file start next lines' w
 progress_more c file start now next lines lines' w p live none (inl (piece, some, small, is)) told =
     progress_put c file start now next lines lines' w piece p live none (ap (λ (v : LinesValue). v.rest) is) (ap (λ (v : LinesValue). v.most) is) (ap (λ (v : LinesValue). v.number) is) told
 progress_more c file start now next lines lines' w p live none (inr is) told =
@@ -152,5 +152,5 @@ progress_starts c file start lines w is counts prints no_rows no_notes =
       no_rows = no_rows;
       no_notes = no_notes;
       paced = goes_paced_starts c file start;
-      told = subst (λ (b : Bool). Goes (HasRun file [] b [] []) start start) (sym ended) (goes_starts file start);
+      told = subst (λ (b : Bool). WhereTold (HasRun file [] b [] []) start start) (sym ended) (goes_starts file start);
     }

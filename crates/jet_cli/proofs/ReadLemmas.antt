@@ -3,7 +3,7 @@ use Rattle.std.proofs.Common.{◌≡◌, ℕ, ◌+◌, ◌≤◌, List, [], ◌�
 use Rattle.std.proofs.Math.Seq.{drop-nil}
 use Rattle.std.proofs.lemmas.List.{drop-drop, map-append}
 use Rattle.std.proofs.lemmas.List.Sums.{fold-append}
-use Rattle.jet_file.specs.Outside.{Told, Place, Entry, Read, Goes, OpensFile, ReadsFile, rest_of, rest_from}
+use Rattle.jet_file.specs.Outside.{Told, Place, CallMade, Read, WhereTold, OpensFile, ReadsFile, rest_of, rest_from}
 use Rattle.jet_file.specs.Reading.{HasRead, HasReadAll}
 use Rattle.jet_cli.proofs.GoesLemmas.{goes_then, goes_same}
 
@@ -32,8 +32,8 @@ read_more file bytes buffer n old now next fits h r = record {
   name = ap (λ (p : Place). p.name) r.place ∙ h.name;
   taken = ap (λ (p : Place). p.taken) r.place ∙ ap (λ (t : ℕ). t + n) h.taken ∙ omega (arith, length-append bytes (take n buffer), length-take-le n buffer fits);
   others = λ other ne. r.others other ne ∙ h.others other ne;
-  trace = r.trace ∙ ap (λ (t : List Entry). t ++ Read file n ∷ []) h.trace ∙ append_assoc old.trace (map (Read file) h.counts) (Read file n ∷ [])
-      ∙ ap (λ (t : List Entry). old.trace ++ t) (sym (map-append (Read file) h.counts (n ∷ [])));
+  trace = r.trace ∙ ap (λ (t : List CallMade). t ++ Read file n ∷ []) h.trace ∙ append_assoc old.trace (map (Read file) h.counts) (Read file n ∷ [])
+      ∙ ap (λ (t : List CallMade). old.trace ++ t) (sym (map-append (Read file) h.counts (n ∷ [])));
 }
 
 -- the last read found nothing
@@ -49,16 +49,16 @@ read_end file bytes buffer n old now next none h r =
 pub read_start : (file : ℕ) (old : Told) → HasRead file [] old old
 read_start file old = record { counts = []; sum = refl; rest = refl; content = refl; written = refl; name = refl; taken = omega arith; others = λ other ne. refl; trace = sym (append-nil old.trace) }
 
-pub goes_more : (file : ℕ) (bytes buffer : List ℕ) (n : ℕ) (old now next : Option Told) → n ≤ length buffer → Goes (HasRead file bytes) old now → Goes (ReadsFile file buffer n) now next
-    → Goes (HasRead file (bytes ++ take n buffer)) old next
+pub goes_more : (file : ℕ) (bytes buffer : List ℕ) (n : ℕ) (old now next : Option Told) → n ≤ length buffer → WhereTold (HasRead file bytes) old now → WhereTold (ReadsFile file buffer n) now next
+    → WhereTold (HasRead file (bytes ++ take n buffer)) old next
 goes_more file bytes buffer n old now next fits = goes_then (HasRead file bytes) (ReadsFile file buffer n) (HasRead file (bytes ++ take n buffer))
     (λ a b c h r. read_more file bytes buffer n a b c fits h r) old now next
 
-pub goes_end : (file : ℕ) (bytes buffer : List ℕ) (n : ℕ) (old now next : Option Told) → n ≡ 0 → Goes (HasRead file bytes) old now → Goes (ReadsFile file buffer n) now next → Goes (HasReadAll file bytes) old next
+pub goes_end : (file : ℕ) (bytes buffer : List ℕ) (n : ℕ) (old now next : Option Told) → n ≡ 0 → WhereTold (HasRead file bytes) old now → WhereTold (ReadsFile file buffer n) now next → WhereTold (HasReadAll file bytes) old next
 goes_end file bytes buffer n old now next none = goes_then (HasRead file bytes) (ReadsFile file buffer n) (HasReadAll file bytes)
     (λ a b c h r. read_end file bytes buffer n a b c none h r) old now next
 
-pub goes_start : (file : ℕ) (old : Option Told) → Goes (HasRead file []) old old
+pub goes_start : (file : ℕ) (old : Option Told) → WhereTold (HasRead file []) old old
 goes_start file old = goes_same (HasRead file []) (read_start file) old
 
 -- all of a newly opened file is left

@@ -1,11 +1,11 @@
 -- How the run over a file goes on, step by step, on an outside that tells all.
 use Rattle.std.proofs.Common.{◌≡◌, ℕ, List, [], ◌∷◌, ◌++◌, length, map, Bool, true, false, Option, refl, ap, sym, ◌∙◌, subst, arith, append-nil, append_assoc, length-append}
-use Rattle.jet_file.specs.Outside.{Told, Place, Entry, Read, Wrote, Goes, rest_of, rest_from}
+use Rattle.jet_file.specs.Outside.{Told, Place, CallMade, Read, Wrote, WhereTold, rest_of, rest_from}
 use Rattle.jet_file.specs.declared.outside.Out.TheVariants.{Rows, Notes}
 use Rattle.jet_cli.proofs.GoesLemmas.{goes_then, goes_same}
 use Rattle.jet_lines.specs.LinesValue.{LinesValue}
 use Rattle.jet_worker.specs.Feeding.{Appends, TakesPiece}
-use Rattle.jet_cli.specs.Progress.{HasRun}
+use Rattle.jet_cli.specs.inner.Progress.{HasRun}
 
 false_not_true : {P : Type 0} → false ≡ true → P
 false_not_true h = absurd (cc)
@@ -36,7 +36,7 @@ run_takes file bytes rows notes before after piece a b c h t is =
       rows_written = ap (λ w. w Rows) t.written ∙ h.rows_written;
       notes_written = ap (λ w. w Notes) t.written ∙ h.notes_written;
       calls = h.calls ++ Read file (length t.piece) ∷ [];
-      trace = t.trace ∙ ap (λ (l : List Entry). l ++ Read file (length t.piece) ∷ []) h.trace ∙ append_assoc a.trace h.calls (Read file (length t.piece) ∷ []);
+      trace = t.trace ∙ ap (λ (l : List CallMade). l ++ Read file (length t.piece) ∷ []) h.trace ∙ append_assoc a.trace h.calls (Read file (length t.piece) ∷ []);
     })
 
 pub cancel : (xs ys zs : List ℕ) → xs ++ ys ≡ xs ++ zs → ys ≡ zs
@@ -44,7 +44,7 @@ cancel [] ys zs h = h
 cancel (x ∷ xs) ys zs h = cancel xs ys zs (cc h)
 
 pub goes_takes : (file : ℕ) (bytes rows notes : List ℕ) (before after : LinesValue) (piece : List ℕ) (old now next : Option Told) → after.rest ≡ before.rest ++ piece
-    → Goes (HasRun file bytes before.ended rows notes) old now → Goes (TakesPiece file before after) now next → Goes (HasRun file (bytes ++ piece) after.ended rows notes) old next
+    → WhereTold (HasRun file bytes before.ended rows notes) old now → WhereTold (TakesPiece file before after) now next → WhereTold (HasRun file (bytes ++ piece) after.ended rows notes) old next
 goes_takes file bytes rows notes before after piece old now next is =
     goes_then (HasRun file bytes before.ended rows notes) (TakesPiece file before after) (HasRun file (bytes ++ piece) after.ended rows notes)
     (λ a b c h t. run_takes file bytes rows notes before after piece a b c h t (cancel before.rest t.piece piece (sym t.lines ∙ is))) old now next
@@ -64,15 +64,15 @@ run_appends file bytes ended rows notes more later a b c h w = record {
   rows_written = w.rows_written ∙ ap (λ (s : List ℕ). s ++ more) h.rows_written ∙ append_assoc (a.written Rows) rows more;
   notes_written = w.notes_written ∙ ap (λ (s : List ℕ). s ++ later) h.notes_written ∙ append_assoc (a.written Notes) notes later;
   calls = h.calls ++ map (Wrote Notes) w.note_lengths ++ map (Wrote Rows) w.row_lengths;
-  trace = w.trace ∙ ap (λ (l : List Entry). l ++ map (Wrote Notes) w.note_lengths ++ map (Wrote Rows) w.row_lengths) h.trace
-      ∙ ap (λ (l : List Entry). l ++ map (Wrote Rows) w.row_lengths) (append_assoc a.trace h.calls (map (Wrote Notes) w.note_lengths))
+  trace = w.trace ∙ ap (λ (l : List CallMade). l ++ map (Wrote Notes) w.note_lengths ++ map (Wrote Rows) w.row_lengths) h.trace
+      ∙ ap (λ (l : List CallMade). l ++ map (Wrote Rows) w.row_lengths) (append_assoc a.trace h.calls (map (Wrote Notes) w.note_lengths))
       ∙ append_assoc a.trace (h.calls ++ map (Wrote Notes) w.note_lengths) (map (Wrote Rows) w.row_lengths);
 }
 
-pub goes_writes : (file : ℕ) (bytes : List ℕ) (ended : Bool) (rows notes more later : List ℕ) (old now next : Option Told) → Goes (HasRun file bytes ended rows notes) old now → Goes (Appends more later) now next
-    → Goes (HasRun file bytes ended (rows ++ more) (notes ++ later)) old next
+pub goes_writes : (file : ℕ) (bytes : List ℕ) (ended : Bool) (rows notes more later : List ℕ) (old now next : Option Told) → WhereTold (HasRun file bytes ended rows notes) old now → WhereTold (Appends more later) now next
+    → WhereTold (HasRun file bytes ended (rows ++ more) (notes ++ later)) old next
 goes_writes file bytes ended rows notes more later old now next =
     goes_then (HasRun file bytes ended rows notes) (Appends more later) (HasRun file bytes ended (rows ++ more) (notes ++ later)) (run_appends file bytes ended rows notes more later) old now next
 
-pub goes_starts : (file : ℕ) (old : Option Told) → Goes (HasRun file [] false [] []) old old
+pub goes_starts : (file : ℕ) (old : Option Told) → WhereTold (HasRun file [] false [] []) old old
 goes_starts file old = goes_same (HasRun file [] false [] []) (run_starts file) old

@@ -11,11 +11,11 @@ use Rattle.jet_lines.specs.declared.fault.LineFault.{LineFault}
 use Rattle.jet_lines.specs.declared.fault.LineFault.TheVariants as fault
 use Rattle.jet_lines.proofs.EntryLemmas.{long_event}
 use Rattle.jet_lines.proofs.FileLemmas.{bad_next, numbered_fits, numbered_over}
-use Rattle.jet_file.specs.Outside.{Told, Place, Goes, OpensFile, rest_of}
+use Rattle.jet_file.specs.Outside.{Told, Place, WhereTold, OpensFile, rest_of}
 use Rattle.jet_cli.proofs.ReadLemmas.{opened_rest}
 use Rattle.jet_cli.specs.Base.{base_name}
 use Rattle.jet_cli.specs.LineStops.{IsBadIn, IsBadLineAt, IsBadOf, RunStops, StopsFrom}
-use Rattle.jet_cli.specs.Progress.{HasRun, Progress}
+use Rattle.jet_cli.specs.inner.Progress.{HasRun, Progress}
 use Rattle.jet_worker.specs.Stopping.{StopTold}
 use Rattle.jet_cli.specs.Words.{WindowCommand}
 use Rattle.jet_cli.specs.declared.counter.WindowCounter.{WindowCounter}
@@ -23,15 +23,15 @@ use Rattle.jet_worker.specs.declared.stop.Spot.{Spot}
 use Rattle.jet_worker.specs.declared.stop.Stop.{Stop}
 use Rattle.jet_worker.specs.declared.stop.Stop.TheVariants.{BadLine, Outside, NoMemory}
 use Rattle.jet_cli.proofs.DoneLemmas.{some_of}
-use Rattle.jet_file.specs.Outside.{Entry, Missed}
+use Rattle.jet_file.specs.Outside.{CallMade, Missed}
 
 -- a stop after more calls is one
-pub stop_later : (name_of : Spot → Option (List ℕ)) (stop : Stop) (more : List Entry) (a b c : Told) → b.trace ≡ a.trace ++ more → StopTold name_of stop b c → StopTold name_of stop a c
+pub stop_later : (name_of : Spot → Option (List ℕ)) (stop : Stop) (more : List CallMade) (a b c : Told) → b.trace ≡ a.trace ++ more → StopTold name_of stop b c → StopTold name_of stop a c
 stop_later name_of (BadLine part line why) more a b c is h = tt
 stop_later name_of (Outside call file) more a b c is h = record {
   before = more ++ h.before;
   tried = h.tried;
-  trace = h.trace ∙ ap (λ (t : List Entry). t ++ h.before ++ Missed h.tried ∷ []) is ∙ ap (λ (t : List Entry). t ++ Missed h.tried ∷ []) (append_assoc a.trace more h.before);
+  trace = h.trace ∙ ap (λ (t : List CallMade). t ++ h.before ++ Missed h.tried ∷ []) is ∙ ap (λ (t : List CallMade). t ++ Missed h.tried ∷ []) (append_assoc a.trace more h.before);
   is = h.is;
 }
 stop_later name_of NoMemory more a b c is h = tt
@@ -56,7 +56,7 @@ run_stops c file bytes ended rows notes stop old start now next bad opens run st
 
 pub goes_run_stops : (c : WindowCommand) (file : ℕ) (bytes : List ℕ) (ended : Bool) (rows notes : List ℕ) (stop : Stop) (old start now next : Option Told)
     → ((content more : List ℕ) → content ≡ bytes ++ more → MayCome ended more → IsBadIn content stop)
-    → Goes (OpensFile c.file file) old start → Goes (HasRun file bytes ended rows notes) start now → Goes (StopsFrom file stop) now next → Goes (RunStops c stop) old next
+    → WhereTold (OpensFile c.file file) old start → WhereTold (HasRun file bytes ended rows notes) start now → WhereTold (StopsFrom file stop) now next → WhereTold (RunStops c stop) old next
 goes_run_stops c file bytes ended rows notes stop None start now next bad o r s = tt
 goes_run_stops c file bytes ended rows notes stop (Some old) None now next bad o r s = absurd o
 goes_run_stops c file bytes ended rows notes stop (Some old) (Some start) None next bad o r s = absurd r

@@ -1,12 +1,12 @@
 -- The reading of a text, read by read.
 use Rattle.std.proofs.Common.{◌≡◌, ℕ, ◌+◌, ◌-◌, ◌≤◌, min, List, ◌++◌, length, take, map, Bool, Option, Some, ap, sym, ◌∙◌, subst, arith, length-append, length-take-le}
 use Rattle.std.proofs.lemmas.List.{take-append-le, length-take}
-use Rattle.jet_file.specs.Outside.{Told, Goes, Read, ReadsFile}
+use Rattle.jet_file.specs.Outside.{Told, WhereTold, Read, ReadsFile}
 use Rattle.jet_file.specs.Reading.{HasRead, HasReadAll}
 use Rattle.jet_worker.specs.Feeding.{StopsAt}
 use Rattle.jet_worker.specs.declared.stop.Spot.{Spot}
 use Rattle.jet_worker.specs.declared.stop.Stop.{Stop}
-use Rattle.jet_cli.specs.TextReading.{ReadsFront, StopsReading}
+use Rattle.jet_cli.specs.inner.TextReading.{ReadsFront, StopsReading}
 use Rattle.jet_cli.proofs.GoesLemmas.{goes_then, goes_weaker}
 use Rattle.jet_cli.proofs.ReadLemmas.{goes_end, goes_more}
 use Rattle.jet_cli.proofs.StopLemmas.{stop_later}
@@ -14,7 +14,7 @@ use Rattle.jet_cli.proofs.StopLemmas.{stop_later}
 -- so much of the text was read, and no call has failed
 pub record TextSoFar {S : Type 0} (told : S → Option Told) (opened : S → ℕ → Bool) (steady : S → Bool) (faults : S → ℕ) (file most : ℕ) (text : List ℕ) (start now : S) : Type 0 where
   pub short : length text ≤ most
-  pub read : Goes (HasRead file text) (told start) (told now)
+  pub read : WhereTold (HasRead file text) (told start) (told now)
   pub opened_same : opened now ≡ opened start
   pub steady_same : steady now ≡ steady start
   pub faults_same : faults now ≡ faults start
@@ -27,28 +27,28 @@ stops_reading spot file text stop a b d r s = record {
   written = s.written ∙ r.written;
 }
 
-pub goes_stops_reading : (spot : Spot) (file : ℕ) (text : List ℕ) (stop : Stop) (old now next : Option Told) → Goes (HasRead file text) old now
-    → Goes (λ a b. StopsAt spot (a.place file).name stop a b) now next → Goes (StopsReading spot file stop) old next
+pub goes_stops_reading : (spot : Spot) (file : ℕ) (text : List ℕ) (stop : Stop) (old now next : Option Told) → WhereTold (HasRead file text) old now
+    → WhereTold (λ a b. StopsAt spot (a.place file).name stop a b) now next → WhereTold (StopsReading spot file stop) old next
 goes_stops_reading spot file text stop =
     goes_then (HasRead file text) (λ a b. StopsAt spot (a.place file).name stop a b) (StopsReading spot file stop) (λ a b d r s. stops_reading spot file text stop a b d r s)
 
 -- the last read found nothing
-pub goes_front : (file most : ℕ) (text buffer : List ℕ) (n : ℕ) (old now next : Option Told) → n ≡ 0 → length text ≤ most → Goes (HasRead file text) old now → Goes (ReadsFile file buffer n) now next
-    → Goes (ReadsFront file most text) old next
+pub goes_front : (file most : ℕ) (text buffer : List ℕ) (n : ℕ) (old now next : Option Told) → n ≡ 0 → length text ≤ most → WhereTold (HasRead file text) old now → WhereTold (ReadsFile file buffer n) now next
+    → WhereTold (ReadsFront file most text) old next
 goes_front file most text buffer n old now next none short read last =
     goes_weaker (HasReadAll file text) (ReadsFront file most text) (λ a b h. record { read = h.read; short = short; all = λ lt. h.end }) old next (goes_end file text buffer n old now next none read last)
 
 -- so much of the text was read, and is more than may be
-pub goes_full : (file most : ℕ) (text : List ℕ) (old now : Option Told) → length text ≤ most → most ≤ length text → Goes (HasRead file text) old now → Goes (ReadsFront file most text) old now
+pub goes_full : (file most : ℕ) (text : List ℕ) (old now : Option Told) → length text ≤ most → most ≤ length text → WhereTold (HasRead file text) old now → WhereTold (ReadsFront file most text) old now
 goes_full file most text old now short full =
     goes_weaker (HasRead file text) (ReadsFront file most text) (λ a b h. record { read = h; short = short; all = λ lt. absurd (omega (arith, lt, full)) }) old now
 
 -- one read more
 pub goes_piece : (file : ℕ) (text text' buffer rest : List ℕ) (n : ℕ) (old now next : Option Told) → n ≤ length buffer → text' ≡ text ++ take n (buffer ++ rest)
-    → Goes (HasRead file text) old now → Goes (ReadsFile file buffer n) now next → Goes (HasRead file text') old next
+    → WhereTold (HasRead file text) old now → WhereTold (ReadsFile file buffer n) now next → WhereTold (HasRead file text') old next
 goes_piece file text text' buffer rest n old now next fits is read more =
     let same : text ++ take n buffer ≡ text' = ap (λ (s : List ℕ). text ++ s) (sym (take-append-le n buffer rest fits)) ∙ sym is in
-    subst (λ (t : List ℕ). Goes (HasRead file t) old next) same (goes_more file text buffer n old now next fits read more)
+    subst (λ (t : List ℕ). WhereTold (HasRead file t) old next) same (goes_more file text buffer n old now next fits read more)
 
 -- and so much more is not too much
 pub piece_fits : (text text' buffer rest : List ℕ) (n most : ℕ) → n ≤ length buffer → text' ≡ text ++ take n (buffer ++ rest) → length text + length buffer ≤ most → length text' ≤ most

@@ -11,10 +11,10 @@ use Rattle.jet_policy.specs.MarkerValue.{MarkerValue, HasSeen}
 use Rattle.jet_file.specs.Text.{row_line, late_line}
 use Rattle.jet_window.specs.Plain.{PlainValue, HasTaken, RowsBetween, RowsUpTo, is_between, window_named}
 use Rattle.jet_window.proofs.Between.{closed_stay, follow}
-use Rattle.jet_cli.specs.Advance.{GoesOn}
+use Rattle.jet_cli.specs.inner.Advance.{ClosesUpTo}
 use Rattle.jet_cli.specs.Base.{base_window}
 use Rattle.jet_cli.specs.Counting.{kept_among, mark_after, Counts}
-use Rattle.jet_cli.specs.Took.{mark_in, is_below, late_text_of, ClosesOn}
+use Rattle.jet_cli.specs.inner.Took.{mark_in, is_below, late_text_of, ClosesOn}
 use Rattle.jet_cli.specs.Words.{WindowCommand}
 use Rattle.jet_cli.proofs.KeptLemmas.{AreBefore, behind_at, kept_more}
 
@@ -27,7 +27,7 @@ at_or_above None ts h = tt
 at_or_above (Some t) ts h = grind (arith, ints, rules, h)
 
 -- the rows go on
-pub rows_go_on : (w : Window) (old new : Option ℤ) (events : List EventValue) (table given : List RowValue) → RowsUpTo w old events table → GoesOn w old new events given
+pub rows_go_on : (w : Window) (old new : Option ℤ) (events : List EventValue) (table given : List RowValue) → RowsUpTo w old events table → ClosesUpTo w old new events given
     → RowsUpTo w new events (table ++ given)
 rows_go_on w old new events table given rows (inl (same, none)) =
     subst (λ (o : Option ℤ). RowsUpTo w o events (table ++ given)) (sym same)
@@ -108,7 +108,7 @@ rises : (old : Option ℤ) (t : ℤ) → IfSome old (λ s. s ≤ℤ t) → IfSom
 rises None t h = tt
 rises (Some s) t h = h
 
-goes_closes : (w : Window) (old new : Option ℤ) (events : List EventValue) (given : List RowValue) → GoesOn w old new events given → ClosesOn old new given
+goes_closes : (w : Window) (old new : Option ℤ) (events : List EventValue) (given : List RowValue) → ClosesUpTo w old new events given → ClosesOn old new given
 goes_closes w old new events given (inl (same, none)) = record {
   up = subst (λ (o : Option ℤ). IfSome old (λ t. IsSomeAnd o (λ u. t ≤ℤ u))) (sym same) (stays old);
   later = subst (All (λ (r : RowValue). IfSome old (λ t. t <ℤ r.end))) (sym none) (All-nil (λ (r : RowValue). IfSome old (λ t. t <ℤ r.end)));
@@ -132,7 +132,7 @@ pub counts_more : (c : WindowCommand) (events : List EventValue) (e : EventValue
     → next.lag ≡ marker.lag → next.grain ≡ marker.grain
     → new.vertex ≡ mid.vertex → new.size ≡ mid.size → new.slide ≡ mid.slide
     → new.closed ≡ mark_in next
-    → ((name : List ℕ) (all : List EventValue) → HasTaken mid all → GoesOn (window_named mid name) mid.closed new.closed all given)
+    → ((name : List ℕ) (all : List EventValue) → HasTaken mid all → ClosesUpTo (window_named mid name) mid.closed new.closed all given)
     → ((all : List EventValue) → HasTaken mid all → HasTaken new all)
     → Counts c (events ++ e ∷ []) (table ++ given) next new × ClosesOn (mark_after c events) (mark_after c (events ++ e ∷ [])) given
 counts_more c events e table given marker next old mid new h before late kept seen lag grain vertex size slide step goes taken =
@@ -145,8 +145,8 @@ counts_more c events e table given marker next old mid new h before late kept se
     let times : map (λ x. x.ts) (events ++ e ∷ []) ≡ map (λ (x : EventValue). x.ts) events ++ e.ts ∷ [] = map-append (λ (x : EventValue). x.ts) events (e ∷ []) in
     let seen2 : HasSeen next (map (λ x. x.ts) (events ++ e ∷ [])) =
     subst (λ (ts : List ℤ). HasSeen next ts) (sym times) (seen (map (λ x. x.ts) events) h.seen) in
-    let goes2 : GoesOn (base_window c) mid.closed new.closed (kept_among c (events ++ e ∷ [])) given =
-    subst (λ (w : Window). GoesOn w mid.closed new.closed (kept_among c (events ++ e ∷ [])) given) (window_is c mid s2.vertex s2.size s2.slide)
+    let goes2 : ClosesUpTo (base_window c) mid.closed new.closed (kept_among c (events ++ e ∷ [])) given =
+    subst (λ (w : Window). ClosesUpTo w mid.closed new.closed (kept_among c (events ++ e ∷ [])) given) (window_is c mid s2.vertex s2.size s2.slide)
     (goes (codes "w") (kept_among c (events ++ e ∷ [])) s2.taken) in
     let closed : mid.closed ≡ mark_after c events = sorts_only old mid e (is_below (mark_in marker) e.ts) late kept ∙ h.closed in
     let closed2 : new.closed ≡ mark_after c (events ++ e ∷ []) =

@@ -1,7 +1,7 @@
 -- What the answers of the top call say to each command.
 use Rattle.std.specs.Prelude.{◌≡◌, ℕ, Bool, List, Option}
 use Rattle.jet_lines.specs.declared.fault.LineFault.{LineFault}
-use Rattle.jet_file.specs.Outside.{Told, Goes}
+use Rattle.jet_file.specs.Outside.{Told, WhereTold}
 use Rattle.jet_file.specs.declared.outside.Out.TheVariants.{Notes}
 use Rattle.jet_worker.specs.declared.stop.Spot.{Spot}
 use Rattle.jet_cli.specs.Base.{base_name}
@@ -32,9 +32,9 @@ StaysQuietInTime (CheckOf c) old new = new.written Notes ≡ old.written Notes
 
 -- that line is the first bad line of its file; `plan` reads no lines
 abbrev pub HasBadLine : JetCommand → ℕ → ℕ → LineFault → Option Told → Option Told → Type 0
-HasBadLine (WindowOf c) part line why old new = Goes (λ a b. IsFirstBadLine c part line why a) old new
+HasBadLine (WindowOf c) part line why old new = WhereTold (λ a b. IsFirstBadLine c part line why a) old new
 HasBadLine (PlanOf c) part line why old new = ⊥
-HasBadLine (CheckOf c) part line why old new = Goes (IsBadLineOf c part line why) old new
+HasBadLine (CheckOf c) part line why old new = WhereTold (IsBadLineOf c part line why) old new
 
 -- the names of the files that a command reads, where files have these contents
 abbrev pub names_of : JetCommand → (List ℕ → Option (List ℕ)) → Spot → Option (List ℕ)

@@ -1,6 +1,6 @@
 -- What the reading of a job file does.
 use Rattle.std.specs.Prelude.{◌≡◌, ◌≢◌, ℕ, Bool, List, ◌++◌, length, take, Option, Some, None, Ok}
-use Rattle.jet_file.specs.Outside.{Told, Entry, AddsNumber}
+use Rattle.jet_file.specs.Outside.{Told, CallMade, AddsNumber}
 use Rattle.jet_job.specs.Jobs.{job_at}
 use Rattle.jet_job.specs.declared.job_text.JobText.{JobText}
 use Rattle.jet_plan.specs.declared.plan.Plan.{Plan}
@@ -32,7 +32,7 @@ pub record ReadsJobFile (name text : List ℕ) (before now : ℕ → Bool) (old 
   pub others : (other : ℕ) → other ≢ file → new.place other ≡ old.place other
   pub kept : new.content ≡ old.content
   pub written : new.written ≡ old.written
-  pub calls : List Entry
+  pub calls : List CallMade
   pub trace : new.trace ≡ old.trace ++ calls
 
 -- a job file was opened and read whole, and this is the plan of its job with the options put over
@@ -49,7 +49,7 @@ pub record ReadsPlan (c : JobCommand) (plan : Plan) (before now : ℕ → Bool) 
   pub others : (other : ℕ) → other ≢ file → new.place other ≡ old.place other
   pub kept : new.content ≡ old.content
   pub written : new.written ≡ old.written
-  pub calls : List Entry
+  pub calls : List CallMade
   pub trace : new.trace ≡ old.trace ++ calls
 
 -- the job was refused for its first fault, and nothing was written; or the reading of the job file stopped

@@ -3,7 +3,7 @@ use Rattle.std.specs.Prelude.{◌≡◌, ℕ, ⊤, List, Option, Some, None, Err
 use Rattle.jet_lines.specs.Readings.{event_line}
 use Rattle.jet_lines.specs.Files.{first_bad_line, most_lines}
 use Rattle.jet_lines.specs.declared.fault.LineFault.{LineFault}
-use Rattle.jet_file.specs.Outside.{Told, Goes}
+use Rattle.jet_file.specs.Outside.{Told, WhereTold}
 use Rattle.jet_cli.specs.Base.{base_name}
 use Rattle.jet_cli.specs.BaseJob.{base_fault}
 use Rattle.jet_cli.specs.Refusals.{base_refusal}
@@ -24,7 +24,7 @@ IsBadLineAt number line NoMemory = ⊤
 
 -- the line has a fault; or a call on the outside failed; or memory ran out
 abbrev pub LineStop : ℕ → List ℕ → Option Told → Option Told → Stop → Type 0
-LineStop number line old new stop = ((name_of : Spot → Option (List ℕ)) → Goes (StopTold name_of stop) old new) × IsBadLineAt number line stop
+LineStop number line old new stop = ((name_of : Spot → Option (List ℕ)) → WhereTold (StopTold name_of stop) old new) × IsBadLineAt number line stop
 
 -- in this file the stop's line is the first bad one, where it is for a bad line
 abbrev pub IsBadIn : List ℕ → Stop → Type 0
@@ -59,4 +59,4 @@ IsOfValid c NoMemory = ⊤
 -- why `window` ends early: its job is refused, or it stops
 abbrev pub BaseHalts : WindowCommand → Option Told → Option Told → Halt → Type 0
 BaseHalts c old new (Refused why) = base_refusal c ≡ Some why
-BaseHalts c old new (Stopped stop) = Goes (RunStops c stop) old new × IsOfValid c stop
+BaseHalts c old new (Stopped stop) = WhereTold (RunStops c stop) old new × IsOfValid c stop

@@ -6,14 +6,14 @@ ghost use Rattle.jet_items.specs.Values.{EventValue, RowValue};
 ghost use Rattle.jet_file.specs.Text.{row_line, late_line};
 ghost use Rattle.jet_window.specs.Plain.{HasTaken};
 ghost use Rattle.jet_policy.specs.MarkerValue.{HasSeen};
-ghost use Rattle.jet_cli.specs.Advance.{Advanced};
-ghost use Rattle.jet_file.specs.Outside.{Goes};
+ghost use Rattle.jet_cli.specs.inner.Advance.{Advanced};
+ghost use Rattle.jet_file.specs.Outside.{WhereTold};
 ghost use Rattle.jet_policy.specs.Policy.{IsPolicy};
 ghost use Rattle.jet_cli.specs.Counting.{Counts};
 ghost use Rattle.jet_worker.specs.Feeding.{Flushes};
-ghost use Rattle.jet_cli.specs.Finished.{Finished};
+ghost use Rattle.jet_cli.specs.inner.Finished.{Finished};
 ghost use Rattle.jet_worker.specs.Stopping.{IsNoBadLine, Outcome};
-ghost use Rattle.jet_cli.specs.Took.{IsInStep, Prints, Took, is_below, mark_in};
+ghost use Rattle.jet_cli.specs.inner.Took.{IsInStep, Prints, Took, is_below, mark_in};
 ghost use Rattle.jet_cli.specs.Words.{WindowCommand};
 
 use crate::Stop;
@@ -141,7 +141,7 @@ impl WindowCounter {
 
     /// Appends what is not yet written to the outputs: late lines, then rows.
     pub(crate) fn write<O: Outside>(&mut self, out: &mut O) -> Result<(), Stop>
-        ensures told { Goes (Flushes self.old.rows.items self.old.notes.items result) (O.told out.old) (O.told out.new) }
+        ensures told { WhereTold (Flushes self.old.rows.items self.old.notes.items result) (O.told out.old) (O.told out.new) }
         ensures outcome { Outcome O.opened O.steady O.faults out.old out.new result }
         ensures marker { self.new.marker ≡ self.old.marker }
         ensures window { self.new.window ≡ self.old.window }

@@ -1,11 +1,11 @@
 // The job file of a command: its text, and the plan of its job.
 ghost use Rattle.std.specs.Prelude.{◌≡◌, true, IfOk, IfErr};
-ghost use Rattle.jet_file.specs.Outside.{Goes, LacksFile};
+ghost use Rattle.jet_file.specs.Outside.{WhereTold, LacksFile};
 ghost use Rattle.jet_plan.specs.Plans.{IsValid};
 ghost use Rattle.jet_worker.specs.Feeding.{StopsAt};
 ghost use Rattle.jet_worker.specs.Stopping.{IsForOutside, IsNoBadLine, OpenOutcome};
 ghost use Rattle.jet_worker.specs.declared.stop.Spot.{Spot as Place};
-ghost use Rattle.jet_cli.specs.Halting.{HaltOutcome, IsEarly, IsNoBadHalt, IsOutsideHalt};
+ghost use Rattle.jet_cli.specs.inner.Halting.{HaltOutcome, IsEarly, IsNoBadHalt, IsOutsideHalt};
 ghost use Rattle.jet_cli.specs.declared.halt.Halt.TheVariants.{Stopped};
 ghost use Rattle.jet_cli.specs.JobFiles.{ReadHalts, ReadsJobFile, ReadsPlan};
 ghost use Rattle.jet_cli.specs.WordsView.{job_read};
@@ -25,8 +25,8 @@ const MOST_TEXT: usize = 1_048_577;
 
 // Opens a job file and reads its text.
 fn job_text<O: Outside>(alloc: Global, name: &[u8], out: &mut O) -> Result<Vec<u8>, Stop>
-    ensures text { IfOk result (λ text. Goes (ReadsJobFile name.now text.items (O.opened out.old) (O.opened out.new)) (O.told out.old) (O.told out.new)) }
-    ensures stop { IfErr result (λ stop. Goes (StopsAt Spot.Job name.now stop) (O.told out.old) (O.told out.new)) }
+    ensures text { IfOk result (λ text. WhereTold (ReadsJobFile name.now text.items (O.opened out.old) (O.opened out.new)) (O.told out.old) (O.told out.new)) }
+    ensures stop { IfErr result (λ stop. WhereTold (StopsAt Spot.Job name.now stop) (O.told out.old) (O.told out.new)) }
     ensures outcome { OpenOutcome O.steady O.faults out.old out.new result }
     ensures works { O.steady out.old ≡ true → IfErr result (λ stop. IsForOutside stop → LacksFile name.now (O.told out.old)) }
     ensures early { IfErr result (λ stop. IsEarly (Stopped stop)) }
@@ -42,9 +42,9 @@ pub(crate) fn read_plan<O: Outside>(
     words: &JobWords<'_>,
     out: &mut O,
 ) -> Result<Plan, Halt>
-    ensures plan { IfOk result (λ plan. Goes (ReadsPlan (job_read words.now) plan (O.opened out.old) (O.opened out.new)) (O.told out.old) (O.told out.new)) }
+    ensures plan { IfOk result (λ plan. WhereTold (ReadsPlan (job_read words.now) plan (O.opened out.old) (O.opened out.new)) (O.told out.old) (O.told out.new)) }
     ensures valid { IfOk result (λ plan. IsValid plan.dag plan.settings) }
-    ensures halt { IfErr result (λ halt. Goes (ReadHalts (job_read words.now) halt) (O.told out.old) (O.told out.new)) }
+    ensures halt { IfErr result (λ halt. WhereTold (ReadHalts (job_read words.now) halt) (O.told out.old) (O.told out.new)) }
     ensures outcome { HaltOutcome O.steady O.faults out.old out.new result }
     ensures works { O.steady out.old ≡ true → IfErr result (λ halt. IsOutsideHalt halt → LacksFile words.now.job.now (O.told out.old)) }
     ensures early { IfErr result IsEarly }

@@ -1,7 +1,7 @@
 // The words behind `plan` and `check`: a job file's name, and the options `--workers`, `--members` and `--ring`.
 ghost use Rattle.std.specs.Prelude.{◌≡◌, [], is_none, if◌then◌else◌, map, option_map, string_bytes};
 ghost use Rattle.jet_cli.specs.JobWords.{Operand, Given, number_within};
-ghost use Rattle.jet_cli.specs.PartsView.{part_in, parts_left, job_with, nothing_found, GoesOn};
+ghost use Rattle.jet_cli.specs.inner.PartsView.{part_in, parts_left, job_with, nothing_found, ReadsPart};
 ghost use Rattle.jet_cli.specs.Words.{job_of};
 ghost use Rattle.jet_cli.specs.WordsView.{job_read};
 
@@ -65,7 +65,7 @@ impl<'a> Found<'a> {
 
     // One part more. A second operand, an option's second value and a part that is not known are refused.
     fn with(self, part: Part<'a>) -> Option<Found<'a>>
-        ensures { GoesOn self.entry (part_in part.entry) result }
+        ensures { ReadsPart self.entry (part_in part.entry) result }
     {
         match part {
             Part::Operand(word) => self.with_job(word.as_bytes()),
@@ -75,7 +75,7 @@ impl<'a> Found<'a> {
     }
 
     fn with_job(self, job: &'a [u8]) -> Option<Found<'a>>
-        ensures { GoesOn self.entry (Operand job.now) result }
+        ensures { ReadsPart self.entry (Operand job.now) result }
     {
         Some(Found {
             job: Some(once(self.job, job)?),
@@ -84,7 +84,7 @@ impl<'a> Found<'a> {
     }
 
     fn with_option(self, name: &str, value: &str) -> Option<Found<'a>>
-        ensures { GoesOn self.entry (Given name.now value.now) result }
+        ensures { ReadsPart self.entry (Given name.now value.now) result }
     {
         let old = self.options;
         let options = match name {

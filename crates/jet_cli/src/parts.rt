@@ -2,7 +2,7 @@
 // option, until a word `--`; an option's value stands behind its `=`, or else is the next word.
 ghost use Rattle.std.specs.Prelude.{◌≡◌, ◌==◌, ◌∷◌, ◌<◌, [], IfSome, MatchOption, map, length, position, string_bytes};
 ghost use Rattle.jet_cli.specs.JobWords.{alone, has_equals, is_end_of_options, is_option_word, marked_parts, parts_of, takes};
-ghost use Rattle.jet_cli.specs.PartsView.{part_in, parts_left};
+ghost use Rattle.jet_cli.specs.inner.PartsView.{part_in, parts_left};
 
 /// What words say.
 #[derive(Clone, Copy)]

@@ -1,7 +1,7 @@
 // The reading of a text from an opened file.
 ghost use Rattle.std.specs.Prelude.{◌≡◌, ◌++◌, IsTrue, IfOk, IfErr, OnOk};
-ghost use Rattle.jet_file.specs.Outside.{Goes};
-ghost use Rattle.jet_cli.specs.TextReading.{ReadsFront, StopsReading};
+ghost use Rattle.jet_file.specs.Outside.{WhereTold};
+ghost use Rattle.jet_cli.specs.inner.TextReading.{ReadsFront, StopsReading};
 ghost use Rattle.jet_worker.specs.Stopping.{IsNoBadLine, IsOfCall, Outcome};
 ghost use Rattle.jet_worker.specs.declared.stop.Call.TheVariants.{Read};
 
@@ -19,8 +19,8 @@ pub(crate) fn read_text<O: Outside>(
     most: usize,
 ) -> Result<Vec<u8>, Stop>
     requires opened { IsTrue (O.opened out.old file) }
-    ensures text { IfOk result (λ text. Goes (ReadsFront file most text.items) (O.told out.old) (O.told out.new)) }
-    ensures stop { IfErr result (λ stop. Goes (StopsReading spot file stop) (O.told out.old) (O.told out.new)) }
+    ensures text { IfOk result (λ text. WhereTold (ReadsFront file most text.items) (O.told out.old) (O.told out.new)) }
+    ensures stop { IfErr result (λ stop. WhereTold (StopsReading spot file stop) (O.told out.old) (O.told out.new)) }
     ensures outcome { Outcome O.opened O.steady O.faults out.old out.new result }
     ensures call { IfErr result (IsOfCall Read spot) }
     ensures no_bad_line { IfErr result IsNoBadLine }

@@ -2,7 +2,7 @@
 ghost use Rattle.std.specs.Prelude.{◌≡◌, ◌<◌, ◌≤◌, ◌↔◌, ℕ, Some, None, map, string_bytes, IsSomeAnd, IsTrue};
 ghost use Rattle.jet_file.specs.Causes.{Rose};
 ghost use Rattle.jet_file.specs.Headline.{WritesNothing};
-ghost use Rattle.jet_file.specs.Outside.{Goes};
+ghost use Rattle.jet_file.specs.Outside.{WhereTold};
 ghost use Rattle.jet_lines.specs.declared.fault.LineFault.{LineFault};
 ghost use Rattle.jet_worker.specs.Stopping.{EndsFailed};
 ghost use Rattle.jet_worker.specs.declared.stop.Call.{Call};
@@ -33,11 +33,11 @@ pub fn run_jet<R: Threads + Sync, O: Outside, G: Gate + Sync, L: Ledger>(
     // Done: to `window` the rows over all events but those of the late lines, to `plan` the plan's text, to `check` the
     // check's text, and nothing else.
     ensures done { result ≡ Status.Done → IsSomeAnd (command_of (map string_bytes words.now))
-        (λ c. Goes (Finishes c (O.opened out.old) (O.opened out.new)) (O.told out.old) (O.told out.new)) }
+        (λ c. WhereTold (Finishes c (O.opened out.old) (O.opened out.new)) (O.told out.old) (O.told out.new)) }
     ensures quiet { result ≡ Status.Done → IsSomeAnd (command_of (map string_bytes words.now))
-        (λ c. Goes (StaysQuiet c) (O.told out.old) (O.told out.new)) }
+        (λ c. WhereTold (StaysQuiet c) (O.told out.old) (O.told out.new)) }
     ensures in_time { result ≡ Status.Done → IsSomeAnd (command_of (map string_bytes words.now))
-        (λ c. Goes (StaysQuietInTime c) (O.told out.old) (O.told out.new)) }
+        (λ c. WhereTold (StaysQuietInTime c) (O.told out.old) (O.told out.new)) }
 
     // No step is counted yet, and no call undoes a fault or ends the steadiness of the outside.
     ensures steps { steps.new ≡ steps.old }
@@ -53,7 +53,7 @@ pub fn run_jet<R: Threads + Sync, O: Outside, G: Gate + Sync, L: Ledger>(
         → IsSomeAnd (command_of (map string_bytes words.now)) (λ c. MayBeRefused why c (O.told out.old)) }
     ensures refuses { (c : JetCommand) (why : Refusal) → command_of (map string_bytes words.now) ≡ Some c → RefusalIs (Some why) c (O.told out.old)
         → (IsJobUnread c result → ⊥) → OrNoMemory result (Status.JobRefused why) }
-    ensures unwritten { IsUsageOrRefused result → Goes WritesNothing (O.told out.old) (O.told out.new) }
+    ensures unwritten { IsUsageOrRefused result → WhereTold WritesNothing (O.told out.old) (O.told out.new) }
     ensures untouched { HasNoJobFile (command_of (map string_bytes words.now)) → IsUsageOrRefused result → out.new ≡ out.old }
 
     // A bad line is the first one of its file.
@@ -64,7 +64,7 @@ pub fn run_jet<R: Threads + Sync, O: Outside, G: Gate + Sync, L: Ledger>(
     ensures fault { IsOutsideFault result → Rose (O.faults out.old) (O.faults out.new) }
     ensures every_fault { O.faults out.old < O.faults out.new → IsOutsideFault result }
     ensures fault_call { (call : Call) (spot : Spot) → result ≡ Status.OutsideFault call spot
-        → IsSomeAnd (command_of (map string_bytes words.now)) (λ c. Goes (λ a. EndsFailed (names_of c a.content) call spot a) (O.told out.old) (O.told out.new)) }
+        → IsSomeAnd (command_of (map string_bytes words.now)) (λ c. WhereTold (λ a. EndsFailed (names_of c a.content) call spot a) (O.told out.old) (O.told out.new)) }
 
     // No fault comes of an outside on which no call fails and the files are there.
     ensures steady { (c : JetCommand) → command_of (map string_bytes words.now) ≡ Some c

@@ -11,7 +11,7 @@ use Rattle.std.specs.Int.{int_max}
 use Rattle.jet_coalescer.specs.declared.queue.Queue.{Queue}
 use Rattle.jet_coalescer.specs.View.{View}
 use Rattle.jet_coalescer.specs.Low.{History, HasHeard, unheard, known, with_mark, with_done, low, all_done, risen, change_of}
-use Rattle.jet_coalescer.specs.Notes.{Note, Marked, Ended, Idled, Woken, queues_after, fronts, low_after, IsTold}
+use Rattle.jet_coalescer.specs.Notes.{Note, Marked, Ended, Idled, Woken, queues_after, fronts, low_after, HasNotes}
 use Rattle.jet_coalescer.specs.Queues.{unknown, counts, greatest_with, greater, with_queue, with_queue_mark, with_queue_done, with_queue_idle, marked, ended, idled, woken, present, none_left, HaveReached, is_done_at}
 use Rattle.jet_coalescer.proofs.Bound.{HasNotLess, bounds_cons, present_reached, present_reaches, reached_rest}
 use Rattle.jet_coalescer.proofs.Told.{known-unheard, low-known, all_done-known, marked-known, ended-known, marked-told, ended-told, idled-told, woken-told}
@@ -50,7 +50,7 @@ low_push n told note =
     ∙ reduce_one (filter_map now (fronts told)) (now more))
 
 -- one note more was told
-told_one : (a b : View) (told : List Note) (note : Note) (changed : List Queue) → IsTold a told → b.queues ≡ changed → length changed ≡ length a.queues → changed ≡ queues_after (length a.queues) (told ++ note ∷ []) → b.low ≡ greater a.low (present b.queues) → IsTold b (told ++ note ∷ [])
+told_one : (a b : View) (told : List Note) (note : Note) (changed : List Queue) → HasNotes a told → b.queues ≡ changed → length changed ≡ length a.queues → changed ≡ queues_after (length a.queues) (told ++ note ∷ []) → b.low ≡ greater a.low (present b.queues) → HasNotes b (told ++ note ∷ [])
 told_one a b told note changed h is count after rises =
     let same : length a.queues ≡ length b.queues = sym (ap length is ∙ count) in
     let queues_are : b.queues ≡ queues_after (length a.queues) (told ++ note ∷ []) = is ∙ after in
@@ -64,22 +64,22 @@ told_one a b told note changed h is count after rises =
       low_is = subst (λ (n : ℕ). b.low ≡ low_after n (told ++ note ∷ [])) same low_is;
     }
 
-pub told_mark : (a b : View) (told : List Note) (q : ℕ) (t : ℤ) → q < length a.queues → b.queues ≡ marked a.queues q t → b.low ≡ greater a.low (present b.queues) → IsTold a told → IsTold b (told ++ Marked q t ∷ [])
+pub told_mark : (a b : View) (told : List Note) (q : ℕ) (t : ℤ) → q < length a.queues → b.queues ≡ marked a.queues q t → b.low ≡ greater a.low (present b.queues) → HasNotes a told → HasNotes b (told ++ Marked q t ∷ [])
 told_mark a b told q t lt is rises h =
     told_one a b told (Marked q t) (marked a.queues q t) h is (length-set a.queues q (with_queue_mark t (slice_index_or a.queues q unknown)))
     (ap (λ (qs : List Queue). marked qs q t) h.queues_are ∙ marked-told (length a.queues) told q t lt) rises
 
-pub told_done : (a b : View) (told : List Note) (q : ℕ) → q < length a.queues → b.queues ≡ ended a.queues q → b.low ≡ greater a.low (present b.queues) → IsTold a told → IsTold b (told ++ Ended q ∷ [])
+pub told_done : (a b : View) (told : List Note) (q : ℕ) → q < length a.queues → b.queues ≡ ended a.queues q → b.low ≡ greater a.low (present b.queues) → HasNotes a told → HasNotes b (told ++ Ended q ∷ [])
 told_done a b told q lt is rises h =
     told_one a b told (Ended q) (ended a.queues q) h is (length-set a.queues q (with_queue_done (slice_index_or a.queues q unknown)))
     (ap (λ (qs : List Queue). ended qs q) h.queues_are ∙ ended-told (length a.queues) told q lt) rises
 
-pub told_idle : (a b : View) (told : List Note) (q : ℕ) → q < length a.queues → b.queues ≡ idled a.queues q → b.low ≡ greater a.low (present b.queues) → IsTold a told → IsTold b (told ++ Idled q ∷ [])
+pub told_idle : (a b : View) (told : List Note) (q : ℕ) → q < length a.queues → b.queues ≡ idled a.queues q → b.low ≡ greater a.low (present b.queues) → HasNotes a told → HasNotes b (told ++ Idled q ∷ [])
 told_idle a b told q lt is rises h =
     told_one a b told (Idled q) (idled a.queues q) h is (length-set a.queues q (with_queue_idle true (slice_index_or a.queues q unknown)))
     (ap (λ (qs : List Queue). idled qs q) h.queues_are ∙ idled-told (length a.queues) told q lt) rises
 
-pub told_wake : (a b : View) (told : List Note) (q : ℕ) → q < length a.queues → b.queues ≡ woken a.queues q → b.low ≡ greater a.low (present b.queues) → IsTold a told → IsTold b (told ++ Woken q ∷ [])
+pub told_wake : (a b : View) (told : List Note) (q : ℕ) → q < length a.queues → b.queues ≡ woken a.queues q → b.low ≡ greater a.low (present b.queues) → HasNotes a told → HasNotes b (told ++ Woken q ∷ [])
 told_wake a b told q lt is rises h =
     told_one a b told (Woken q) (woken a.queues q) h is (length-set a.queues q (with_queue_idle false (slice_index_or a.queues q unknown)))
     (ap (λ (qs : List Queue). woken qs q) h.queues_are ∙ woken-told (length a.queues) told q lt) rises
@@ -217,7 +217,7 @@ none_after (suc n) = ap (λ rest. unknown ∷ rest) (none_after n)
 none_low : (n : ℕ) → None ≡ low_after n []
 none_low n = sym (ap (reduce int_max) (filtered_one (λ front. present (queues_after n front)) [] None (ap present (sym (none_after n)) ∙ none_present n)))
 
-pub new_told : (n : ℕ) (c : View) → c.queues ≡ replicate n unknown → c.low ≡ None → IsTold c []
+pub new_told : (n : ℕ) (c : View) → c.queues ≡ replicate n unknown → c.low ≡ None → HasNotes c []
 new_told n c is none =
     let count : length c.queues ≡ n = ap length is ∙ length-replicate n unknown in
     record {

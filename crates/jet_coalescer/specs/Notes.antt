@@ -64,6 +64,6 @@ abbrev pub low_after : ℕ → List Note → Option ℤ
 low_after n told = reduce int_max (filter_map (λ front. present (queues_after n front)) (fronts told))
 
 -- a coalescer was told this
-pub record IsTold (c : View) (told : List Note) : Type 0 where
+pub record HasNotes (c : View) (told : List Note) : Type 0 where
   pub queues_are : c.queues ≡ queues_after (length c.queues) told
   pub low_is : c.low ≡ low_after (length c.queues) told

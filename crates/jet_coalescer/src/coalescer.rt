@@ -4,7 +4,7 @@
 ghost use Rattle.std.specs.Prelude.{◌≡◌, ◌<◌, ℕ, ℤ, Some, None, true, false, List, [], ◌∷◌, ◌++◌, length, replicate, cond, IfOk};
 ghost use Rattle.jet_coalescer.specs.declared.change.Change.TheVariants as change;
 ghost use Rattle.jet_coalescer.specs.Low.{History, unheard, HasHeard, with_mark, with_done, low, all_done, risen, raised, change_of};
-ghost use Rattle.jet_coalescer.specs.Notes.{Note, Marked, Ended, Idled, Woken, low_after, IsTold};
+ghost use Rattle.jet_coalescer.specs.Notes.{Note, Marked, Ended, Idled, Woken, low_after, HasNotes};
 ghost use Rattle.jet_coalescer.specs.Queues.{unknown, greater, marked, ended, idled, woken, is_done_at, least_with, present, none_left, PresentIsLeast, RisesToLeast, HoldsNoneBack};
 
 use crate::change::Change;
@@ -35,7 +35,7 @@ impl Model for Coalescer {
 impl Coalescer {
     /// A coalescer of `n` queues, none of them idle.
     pub fn new(alloc: Global, n: u32) -> Result<Coalescer, NoMemory>
-        ensures told { IfOk result (λ c. IsTold c []) }
+        ensures told { IfOk result (λ c. HasNotes c []) }
         ensures heard { IfOk result (λ c. HasHeard c (replicate n unheard)) }
         ensures value { IfOk result (λ c. c ≡ record { queues = replicate n unknown; low = None }) }
     {
@@ -54,7 +54,7 @@ impl Coalescer {
     pub fn observe(&mut self, queue: u32, mark: Mark) -> Option<Mark>
         requires exists { queue < length self.old.queues }
         requires open { is_done_at self.old queue ≡ false }
-        ensures told { (told : List Note) → IsTold self.old told → IsTold self.new (told ++ Marked queue mark ∷ []) }
+        ensures told { (told : List Note) → HasNotes self.old told → HasNotes self.new (told ++ Marked queue mark ∷ []) }
         ensures heard { (told : List History) → HasHeard self.old told → HasHeard self.new (with_mark told queue mark) }
         ensures risen { (told : List History) → HasHeard self.old told
             → result ≡ risen (low told) (low (with_mark told queue mark)) }
@@ -73,7 +73,7 @@ impl Coalescer {
     pub fn idle(&mut self, queue: u32) -> Option<Mark>
         requires exists { queue < length self.old.queues }
         requires open { is_done_at self.old queue ≡ false }
-        ensures told { (told : List Note) → IsTold self.old told → IsTold self.new (told ++ Idled queue ∷ []) }
+        ensures told { (told : List Note) → HasNotes self.old told → HasNotes self.new (told ++ Idled queue ∷ []) }
         ensures value { self.new.queues ≡ idled self.old.queues queue }
         ensures low { self.new.low ≡ greater self.old.low (present self.new.queues) }
         ensures answer { result ≡ risen self.old.low self.new.low }
@@ -88,7 +88,7 @@ impl Coalescer {
     pub fn wake(&mut self, queue: u32) -> Option<Mark>
         requires exists { queue < length self.old.queues }
         requires open { is_done_at self.old queue ≡ false }
-        ensures told { (told : List Note) → IsTold self.old told → IsTold self.new (told ++ Woken queue ∷ []) }
+        ensures told { (told : List Note) → HasNotes self.old told → HasNotes self.new (told ++ Woken queue ∷ []) }
         ensures value { self.new.queues ≡ woken self.old.queues queue }
         ensures low { self.new.low ≡ greater self.old.low (present self.new.queues) }
         ensures answer { result ≡ risen self.old.low self.new.low }
@@ -104,7 +104,7 @@ impl Coalescer {
     pub fn done(&mut self, queue: u32) -> Change
         requires exists { queue < length self.old.queues }
         requires open { is_done_at self.old queue ≡ false }
-        ensures told { (told : List Note) → IsTold self.old told → IsTold self.new (told ++ Ended queue ∷ []) }
+        ensures told { (told : List Note) → HasNotes self.old told → HasNotes self.new (told ++ Ended queue ∷ []) }
         ensures heard { (told : List History) → HasHeard self.old told → HasHeard self.new (with_done told queue) }
         ensures change { (told : List History) → HasHeard self.old told
             → result ≡ change_of (all_done (with_done told queue)) (low told) (low (with_done told queue)) }
@@ -122,7 +122,7 @@ impl Coalescer {
     /// The watermark: the greatest that the least of the greatest marks of the queues that are neither done nor idle
     /// has ever been. None where there never was such a queue, or one of them always was without a mark.
     pub fn low(&self) -> Option<Mark>
-        ensures told { (told : List Note) → IsTold self.now told → result ≡ low_after (length self.now.queues) told }
+        ensures told { (told : List Note) → HasNotes self.now told → result ≡ low_after (length self.now.queues) told }
         ensures heard { (told : List History) → HasHeard self.now told → all_done told ≡ false → result ≡ low told }
         ensures value { result ≡ self.now.low }
         ensures bound { PresentIsLeast self.now.queues }

@@ -74,7 +74,7 @@ skipped at (suc k) [] h = absurd (omega (arith, h))
 skipped at (suc k) (x ∷ xs) h = skipped (at + 1) k xs (omega (arith, h)) ∙ ap (λ (n : ℕ). tokens_from n 0 (drop k xs)) (omega arith)
 
 -- the tokens from a place on, where the text goes on
-pub record Goes (text : List ℕ) (at : ℕ) : Type 0 where
+pub record ReadsOn (text : List ℕ) (at : ℕ) : Type 0 where
   pub blank : get_or text at 0 ≡ 32 → tokens_from at 0 (drop at text) ≡ tokens_from (at + 1) 0 (drop (at + 1) text)
   pub token : get_or text at 0 ≢ 32 → tokens_from at 0 (drop at text) ≡ (at, (token_of (drop at text)).0) ∷ tokens_from (at + (token_of (drop at text)).1) 0 (drop (at + (token_of (drop at text)).1) text)
   pub some : 1 ≤ (token_of (drop at text)).1
@@ -84,7 +84,7 @@ drop_on : (text : List ℕ) (at c n : ℕ) (xs : List ℕ) → drop at text ≡ 
 drop_on text at c zero xs is h = absurd (omega (arith, h))
 drop_on text at c (suc n) xs is h = sym (drop-drop (suc n) at text) ∙ ap (drop (suc n)) is
 
-goes_at : (text : List ℕ) (at c : ℕ) (xs : List ℕ) → drop at text ≡ c ∷ xs → get_or text at 0 ≡ c → at < length text → Goes text at
+goes_at : (text : List ℕ) (at c : ℕ) (xs : List ℕ) → drop at text ≡ c ∷ xs → get_or text at 0 ≡ c → at < length text → ReadsOn text at
 goes_at text at c xs is first below =
     let t = token_of (c ∷ xs) in
     let s = token_size c xs in
@@ -105,7 +105,7 @@ goes_at text at c xs is first below =
       within = subst (λ (ys : List ℕ). at + (token_of ys).1 ≤ length text) (sym is) (omega (arith, s.within, all));
     }
 
-pub goes : (text : List ℕ) (at : ℕ) → at < length text → Goes text at
+pub goes : (text : List ℕ) (at : ℕ) → at < length text → ReadsOn text at
 goes text at below = goes_at text at (get_or text at 0) (drop (suc at) text) (drop-cons text at 0 below) refl below
 
 -- what the text gives from a place on

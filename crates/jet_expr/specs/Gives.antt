@@ -21,6 +21,6 @@ abbrev pub rest_of : State → List ℕ → ℕ → Result Term ExprFault
 rest_of s text at = outcome terms (state_of s) (tokens_from at 0 (drop at text))
 
 -- the state and the place behind one token or blank more, from where the text gives the same
-abbrev pub GoesOn : Result (State × ℕ) (Refused ExprFault) → List ℕ → ℕ → Result Term ExprFault → Type 0
-GoesOn (Ok r) text at wanted = (at < r.1) × (r.1 ≤ length text) × (rest_of r.0 text r.1 ≡ wanted)
-GoesOn (Err e) text at wanted = Fails e wanted
+abbrev pub ReadsToken : Result (State × ℕ) (Refused ExprFault) → List ℕ → ℕ → Result Term ExprFault → Type 0
+ReadsToken (Ok r) text at wanted = (at < r.1) × (r.1 ≤ length text) × (rest_of r.0 text r.1 ≡ wanted)
+ReadsToken (Err e) text at wanted = Fails e wanted

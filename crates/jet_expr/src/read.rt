@@ -1,6 +1,6 @@
 // Reading the text of an expression, from the left.
 ghost use Rattle.std.specs.Prelude.{◌≡◌, ◌≤◌, ◌<◌, length, []};
-ghost use Rattle.jet_expr.specs.Gives.{GivesNode, GoesOn, rest_of};
+ghost use Rattle.jet_expr.specs.Gives.{GivesNode, ReadsToken, rest_of};
 ghost use Rattle.jet_expr.specs.Machine.{expr_at, outcome, terms, want};
 ghost use Rattle.jet_expr.specs.Tokens.{tokens_of};
 
@@ -48,7 +48,7 @@ fn read_token(
 ) -> Result<(State, usize), Refused<ExprFault>>
     requires short { length text.now ≤ 1024 }
     requires within { at < length text.now }
-    ensures { GoesOn result text.now at (rest_of state text.now at) }
+    ensures { ReadsToken result text.now at (rest_of state text.now at) }
 {
     if text[at] == b' ' {
         return Ok((state, at + 1));

@@ -4,7 +4,7 @@ use Rattle.std.specs.Fmt.{digits}
 use Rattle.std.specs.Prelude.{codes}
 use Rattle.jet_items.specs.Rows.{Window}
 use Rattle.jet_items.specs.Values.{EventValue, RowValue}
-use Rattle.jet_file.specs.Outside.{Entry, Opened, Read, Wrote, Missed, Reading}
+use Rattle.jet_file.specs.Outside.{CallMade, Opened, Read, Wrote, Missed, Reading}
 use Rattle.jet_file.specs.Pace.{taken_by, wrote_by, rows_until}
 use Rattle.jet_file.specs.Text.{row_line, late_line, rows_text, late_text}
 use Rattle.jet_file.specs.declared.outside.Out.TheVariants.{Rows, Notes}
@@ -34,7 +34,7 @@ until : rows_until (pos 7) (row_at (pos 5) ∷ row_at (pos 10) ∷ []) ≡ row_a
 unfolding row_at
 until = refl
 
-calls : List Entry
+calls : List CallMade
 calls = Opened (codes "p") 0 ∷ Read 0 7 ∷ Read 1 5 ∷ Wrote Rows 3 ∷ Wrote Notes 2 ∷ Missed (Reading 0) ∷ Read 0 1 ∷ []
 
 counts : (taken_by 0 calls ≡ 8) × (taken_by 1 calls ≡ 5) × (wrote_by Rows calls ≡ 3) × (wrote_by Notes calls ≡ 2)

@@ -4,7 +4,7 @@ use Rattle.std.proofs.Math.Seq.{take-add}
 use Rattle.std.proofs.lemmas.List.{map-append}
 use Rattle.std.proofs.lemmas.List.Sums.{fold-append}
 use Rattle.std.proofs.lemmas.Grind.{common_steps}
-use Rattle.jet_file.specs.Outside.{Told, Entry, Wrote, Missed, Writing, Goes, WritesBytes, Stays}
+use Rattle.jet_file.specs.Outside.{Told, CallMade, Wrote, Missed, Writing, WhereTold, WritesBytes, Stays}
 use Rattle.jet_file.specs.declared.outside.Out.{Out}
 use Rattle.jet_file.specs.declared.outside.OutFault.{OutFault}
 use Rattle.jet_file.specs.declared.outside.OutFault.TheVariants.{Failed, NoMemory}
@@ -13,7 +13,7 @@ use Rattle.jet_file.specs.Writing.{HasWritten, WritesFront}
 -- what a loop of writes keeps: the first `done` bytes were written
 pub record SoFar {S : Type 0} (told : S → Option Told) (opened : S → ℕ → Bool) (steady : S → Bool) (faults : S → ℕ) (to : Out) (bytes : List ℕ) (done : ℕ) (old now : S) : Type 0 where
   pub within : done ≤ length bytes
-  pub wrote : Goes (HasWritten to (take done bytes) []) (told old) (told now)
+  pub wrote : WhereTold (HasWritten to (take done bytes) []) (told old) (told now)
   pub opened_same : opened now ≡ opened old
   pub steady_same : steady now ≡ steady old
   pub faults_same : faults now ≡ faults old
@@ -37,21 +37,21 @@ write_more to bytes done n old now next some fits within h w = record {
   written = w.written ∙ ap (λ (s : List ℕ). s ++ take n (drop done bytes)) h.written ∙ append_assoc (old.written to) (take done bytes) (take n (drop done bytes))
       ∙ ap (λ (s : List ℕ). old.written to ++ s) (sym (take-add done n bytes));
   others = λ other differs. w.others other differs ∙ h.others other differs;
-  trace = w.trace ∙ ap (λ (t : List Entry). t ++ Wrote to n ∷ []) (h.trace ∙ append-nil (old.trace ++ map (Wrote to) h.lengths))
+  trace = w.trace ∙ ap (λ (t : List CallMade). t ++ Wrote to n ∷ []) (h.trace ∙ append-nil (old.trace ++ map (Wrote to) h.lengths))
       ∙ append_assoc old.trace (map (Wrote to) h.lengths) (Wrote to n ∷ [])
-      ∙ ap (λ (t : List Entry). old.trace ++ t) (sym (map-append (Wrote to) h.lengths (n ∷ [])))
+      ∙ ap (λ (t : List CallMade). old.trace ++ t) (sym (map-append (Wrote to) h.lengths (n ∷ [])))
       ∙ sym (append-nil (old.trace ++ map (Wrote to) (h.lengths ++ n ∷ [])));
 }
 
 pub goes_more : (to : Out) (bytes : List ℕ) (done n : ℕ) (old now next : Option Told) → 0 < n → n ≤ length (drop done bytes) → done + n ≤ length bytes
-    → Goes (HasWritten to (take done bytes) []) old now → Goes (WritesBytes to (drop done bytes) n) now next → Goes (HasWritten to (take (done + n) bytes) []) old next
+    → WhereTold (HasWritten to (take done bytes) []) old now → WhereTold (WritesBytes to (drop done bytes) n) now next → WhereTold (HasWritten to (take (done + n) bytes) []) old next
 goes_more to bytes done n None now next some fits within h w = tt
 goes_more to bytes done n (Some old) None next some fits within h w = absurd h
 goes_more to bytes done n (Some old) (Some now) None some fits within h w = absurd w
 goes_more to bytes done n (Some old) (Some now) (Some next) some fits within h w = write_more to bytes done n old now next some fits within h w
 
 -- nothing is written at first
-pub goes_start : (to : Out) (bytes : List ℕ) (old : Option Told) → Goes (HasWritten to (take 0 bytes) []) old old
+pub goes_start : (to : Out) (bytes : List ℕ) (old : Option Told) → WhereTold (HasWritten to (take 0 bytes) []) old old
 goes_start to bytes None = tt
 goes_start to bytes (Some old) = record { lengths = []; each = λ k d below. absurd (omega arith); sum = refl; content = refl; place = refl; written = sym (append-nil (old.written to)); others = λ other differs. refl; trace = sym (append-nil (old.trace ++ []) ∙ append-nil old.trace) }
 
@@ -69,7 +69,7 @@ write_stop to bytes done Failed old now next short h s = record {
     place = ap (λ (t : Told). t.place) s ∙ h.place;
     written = ap (λ (t : Told). t.written to) s ∙ h.written;
     others = λ other differs. ap (λ (t : Told). t.written other) s ∙ h.others other differs;
-    trace = ap (λ (t : Told). t.trace) s ∙ ap (λ (t : List Entry). t ++ Missed (Writing to) ∷ []) (h.trace ∙ append-nil (old.trace ++ map (Wrote to) h.lengths));
+    trace = ap (λ (t : Told). t.trace) s ∙ ap (λ (t : List CallMade). t ++ Missed (Writing to) ∷ []) (h.trace ∙ append-nil (old.trace ++ map (Wrote to) h.lengths));
   };
 }
 write_stop to bytes done NoMemory old now next short h s = record {
@@ -88,7 +88,7 @@ write_stop to bytes done NoMemory old now next short h s = record {
 }
 
 pub goes_stop : (to : Out) (bytes : List ℕ) (done : ℕ) (fault : OutFault) (old now next : Option Told) → done < length bytes
-    → Goes (HasWritten to (take done bytes) []) old now → Goes (Stays (Writing to) fault) now next → Goes (WritesFront to bytes fault) old next
+    → WhereTold (HasWritten to (take done bytes) []) old now → WhereTold (Stays (Writing to) fault) now next → WhereTold (WritesFront to bytes fault) old next
 goes_stop to bytes done fault None now next short h s = tt
 goes_stop to bytes done fault (Some old) None next short h s = absurd h
 goes_stop to bytes done fault (Some old) (Some now) None short h s = absurd s

@@ -2,13 +2,13 @@
 use Rattle.std.specs.Prelude.{◌≡◌, ℕ, ◌+◌, ◌≤◌, ◌==◌, ℤ, ◌-ℤ◌, int_le, List, [], ◌∷◌, ◌++◌, length, filter, All, Option, IfSome, if◌then◌else◌}
 use Rattle.jet_items.specs.Rows.{Window}
 use Rattle.jet_items.specs.Values.{RowValue}
-use Rattle.jet_file.specs.Outside.{Entry, Opened, Read, Wrote, Missed}
+use Rattle.jet_file.specs.Outside.{CallMade, Opened, Read, Wrote, Missed}
 use Rattle.jet_file.specs.Text.{rows_text}
 use Rattle.jet_file.specs.declared.outside.Out.{Out}
 use Rattle.jet_file.specs.declared.outside.Out.TheVariants.{Rows, Notes}
 
 -- how many bytes of the file of this number these calls took
-abbrev pub taken_by : ℕ → List Entry → ℕ
+abbrev pub taken_by : ℕ → List CallMade → ℕ
 taken_by file [] = 0
 taken_by file (Read other n ∷ calls) = (if other == file then n else 0) + taken_by file calls
 taken_by file (Opened name other ∷ calls) = taken_by file calls
@@ -23,7 +23,7 @@ where_to Notes Rows n = 0
 where_to Notes Notes n = n
 
 -- how many bytes these calls wrote to the output
-abbrev pub wrote_by : Out → List Entry → ℕ
+abbrev pub wrote_by : Out → List CallMade → ℕ
 wrote_by out [] = 0
 wrote_by out (Wrote to n ∷ calls) = where_to out to n + wrote_by out calls
 wrote_by out (Opened name file ∷ calls) = wrote_by out calls
@@ -44,6 +44,6 @@ rows_until t rows = filter (λ r. int_le r.end t) rows
 -- each row line whose end is at most m less `ahead` was written to Rows before the read. Rows stand in the order of
 -- their ends, so the rows until a time are a front of the table and their text is a front of Rows. That so many bytes
 -- were written says that they were.
-pub record IsPaced (windows : List Window) (sources : List Source) (ahead : ℤ) (rows : List RowValue) (calls : List Entry) : Type 0 where
-  pub each : All (λ s. (before after : List Entry) (n : ℕ) → calls ≡ before ++ Read s.file n ∷ after
+pub record IsPaced (windows : List Window) (sources : List Source) (ahead : ℤ) (rows : List RowValue) (calls : List CallMade) : Type 0 where
+  pub each : All (λ s. (before after : List CallMade) (n : ℕ) → calls ≡ before ++ Read s.file n ∷ after
       → IfSome (s.mark (taken_by s.file before)) (λ m. length (rows_text windows (rows_until (m -ℤ ahead) rows)) ≤ wrote_by Rows before)) sources

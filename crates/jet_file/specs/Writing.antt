@@ -1,17 +1,17 @@
 -- What a run of writes to one output did.
 use Rattle.std.specs.Prelude.{◌≡◌, ◌≢◌, ℕ, ◌<◌, List, [], ◌∷◌, ◌++◌, length, take, map, sum, All, Result, Ok, Err}
-use Rattle.jet_file.specs.Outside.{Told, Entry, Wrote, Missed, Tried, Writing}
+use Rattle.jet_file.specs.Outside.{Told, CallMade, Wrote, Missed, Tried, Writing}
 use Rattle.jet_file.specs.declared.outside.Out.{Out}
 use Rattle.jet_file.specs.declared.outside.OutFault.{OutFault}
 use Rattle.jet_file.specs.declared.outside.OutFault.TheVariants.{Failed, NoMemory}
 
 -- what a call that answers a fault adds to the trace: itself where it failed, and nothing where it found no memory
-abbrev pub missed : Tried → OutFault → List Entry
+abbrev pub missed : Tried → OutFault → List CallMade
 missed tried Failed = Missed tried ∷ []
 missed tried NoMemory = []
 
 -- these bytes were appended to the output in writes of these lengths, then came the last entries; all else stays
-pub record HasWritten (to : Out) (bytes : List ℕ) (last : List Entry) (old now : Told) : Type 0 where
+pub record HasWritten (to : Out) (bytes : List ℕ) (last : List CallMade) (old now : Told) : Type 0 where
   pub lengths : List ℕ
   pub each : All (λ n. 0 < n) lengths
   pub sum : sum lengths ≡ length bytes

@@ -4,7 +4,7 @@
 ghost use Rattle.std.specs.Prelude.{◌≡◌, ◌≢◌, ◌≤◌, ◌<◌, ◌+◌, ◌-◌, ◌^◌, ◌++◌, [], ◌∷◌, ◌==◌, ℕ, List, min, false, length, map, IfOk, OnOk, OnErr, None, Err, IsTrue};
 ghost use Rattle.std.specs.Result.{IsOk};
 ghost use Rattle.jet_file.specs.Causes.{HasCause};
-ghost use Rattle.jet_file.specs.Outside.{Adds, Entry, Goes, LacksFile, Opens, Reads, Writes, Wrote};
+ghost use Rattle.jet_file.specs.Outside.{Adds, CallMade, WhereTold, LacksFile, Opens, Reads, Writes, Wrote};
 ghost use Rattle.jet_file.specs.declared.outside.Out.{Out};
 ghost use Rattle.jet_file.specs.declared.outside.OutFault.{OutFault};
 
@@ -139,7 +139,7 @@ impl Outside for MemoryOutside {
     ghost faults_bound = { λ m. Prim.omega arith };
 
     fn open_file(&mut self, name: &[u8]) -> Result<FileNo, OutFault>
-        ensures told { Goes (Opens name.now result) (Some (memory_told self.old)) (Some (memory_told self.new)) }
+        ensures told { WhereTold (Opens name.now result) (Some (memory_told self.old)) (Some (memory_told self.new)) }
         ensures opened { Adds (memory_opened self.old) (memory_opened self.new) result }
         ensures steady { memory_steady self.new ≡ memory_steady self.old }
         ensures works { IsTrue (memory_steady self.old) → result ≡ Err OutFault.Failed → LacksFile name.now (Some (memory_told self.old)) }
@@ -169,7 +169,7 @@ impl Outside for MemoryOutside {
         requires opened { IsTrue (memory_opened self.old file) }
         requires room { 0 < length buf.old }
         ensures bound { IfOk result (λ n. n ≤ length buf.new) }
-        ensures told { Goes (Reads file buf.new result) (Some (memory_told self.old)) (Some (memory_told self.new)) }
+        ensures told { WhereTold (Reads file buf.new result) (Some (memory_told self.old)) (Some (memory_told self.new)) }
         ensures opened { memory_opened self.new ≡ memory_opened self.old }
         ensures steady { memory_steady self.new ≡ memory_steady self.old }
         ensures works { IsTrue (memory_steady self.old) → result ≢ Err OutFault.Failed }
@@ -193,7 +193,7 @@ impl Outside for MemoryOutside {
     fn write(&mut self, to: Out, buf: &[u8]) -> Result<usize, OutFault>
         requires { 0 < length buf.now }
         ensures bound { IfOk result (λ n. (0 < n) × (n ≤ length buf.now)) }
-        ensures told { Goes (Writes to buf.now result) (Some (memory_told self.old)) (Some (memory_told self.new)) }
+        ensures told { WhereTold (Writes to buf.now result) (Some (memory_told self.old)) (Some (memory_told self.new)) }
         ensures opened { memory_opened self.new ≡ memory_opened self.old }
         ensures steady { memory_steady self.new ≡ memory_steady self.old }
         ensures works { IsTrue (memory_steady self.old) → result ≢ Err OutFault.Failed }

@@ -2,7 +2,7 @@
 // contracts over any outside speak of contents and outputs, and a real device may tell none of them.
 ghost use Rattle.std.specs.Prelude.{◌≡◌, ◌≢◌, ℕ, ◌-◌, ◌≤◌, ◌<◌, ◌^◌, List, length, Option, IsTrue, Bool, IfOk, Err};
 ghost use Rattle.jet_file.specs.Causes.{HasCause};
-ghost use Rattle.jet_file.specs.Outside.{Told, Goes, Opens, Reads, Writes, Adds, LacksFile};
+ghost use Rattle.jet_file.specs.Outside.{Told, WhereTold, Opens, Reads, Writes, Adds, LacksFile};
 ghost use Rattle.jet_file.specs.declared.outside.OutFault.{OutFault};
 
 use std::alloc::{AllocError, AllocFailed};
@@ -71,7 +71,7 @@ pub trait Outside {
 
     /// Opens the file of this name, from its first byte on.
     fn open_file(&mut self, name: &[u8]) -> Result<FileNo, OutFault>
-        ensures told { Goes (Opens name.now result) (told self.old) (told self.new) }
+        ensures told { WhereTold (Opens name.now result) (told self.old) (told self.new) }
         ensures opened { Adds (opened self.old) (opened self.new) result }
         ensures steady { steady self.new ≡ steady self.old }
         ensures works { IsTrue (steady self.old) → result ≡ Err OutFault.Failed → LacksFile name.now (told self.old) }
@@ -82,7 +82,7 @@ pub trait Outside {
         requires opened { IsTrue (opened self.old file) }
         requires room { 0 < length buf.old }
         ensures bound { IfOk result (λ n. n ≤ length buf.new) }
-        ensures told { Goes (Reads file buf.new result) (told self.old) (told self.new) }
+        ensures told { WhereTold (Reads file buf.new result) (told self.old) (told self.new) }
         ensures opened { opened self.new ≡ opened self.old }
         ensures steady { steady self.new ≡ steady self.old }
         ensures works { IsTrue (steady self.old) → result ≢ Err OutFault.Failed }
@@ -92,7 +92,7 @@ pub trait Outside {
     fn write(&mut self, to: Out, buf: &[u8]) -> Result<usize, OutFault>
         requires { 0 < length buf.now }
         ensures bound { IfOk result (λ n. (0 < n) × (n ≤ length buf.now)) }
-        ensures told { Goes (Writes to buf.now result) (told self.old) (told self.new) }
+        ensures told { WhereTold (Writes to buf.now result) (told self.old) (told self.new) }
         ensures opened { opened self.new ≡ opened self.old }
         ensures steady { steady self.new ≡ steady self.old }
         ensures works { IsTrue (steady self.old) → result ≢ Err OutFault.Failed }

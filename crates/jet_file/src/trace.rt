@@ -55,9 +55,9 @@ pub(crate) struct Trace {
 
 impl Model for Trace {
     ghost use Rattle.std.specs.Prelude.{◌≡◌, List, map};
-    ghost use Rattle.jet_file.specs.Outside.{Entry};
+    ghost use Rattle.jet_file.specs.Outside.{CallMade};
 
-    ghost Value = { List Entry };
+    ghost Value = { List CallMade };
 
     ghost use Rattle.jet_file.specs.Trace.{entry_of, note_of};
 

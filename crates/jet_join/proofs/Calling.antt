@@ -8,8 +8,8 @@ use Rattle.jet_items.specs.Kinds.{sides_of}
 use Rattle.jet_items.specs.declared.item.Item.{Item}
 use Rattle.jet_items.specs.declared.item.Item.TheVariants as item
 use Rattle.jet_items.specs.declared.no_memory.NoMemory.{NoMemory}
-use Rattle.jet_boxes.specs.Entry.{Entry, Given}
-use Rattle.jet_boxes.specs.Held.{Held}
+use Rattle.jet_boxes.specs.Entry.{CallEntry, Given}
+use Rattle.jet_boxes.specs.Held.{BoxView}
 use Rattle.jet_boxes.specs.declared.port.Port.TheVariants.{Stream, Build}
 use Rattle.jet_join.specs.declared.join.JoinP.{JoinP}
 use Rattle.jet_join.specs.declared.side_rows.SideRows.{SideRows}
@@ -20,14 +20,14 @@ use Rattle.jet_join.specs.Calls.{JoinCall}
 use Rattle.jet_join.specs.Outs.{given-push, rows-push}
 
 -- ---- an entry is at its end once all that it gives was put
-ended : (j : Joining) (kept : SideRows) (next : ℕ) (taken : List Entry) (entry : Entry) (given put : List Item) → (h : JoinAmid j kept next taken entry given)
+ended : (j : Joining) (kept : SideRows) (next : ℕ) (taken : List CallEntry) (entry : CallEntry) (given put : List Item) → (h : JoinAmid j kept next taken entry given)
     → take next (gives j (build_rows taken) entry) ++ put ≡ gives j (build_rows taken) entry → given ++ put ≡ all_given j [] (taken ++ entry ∷ [])
 ended j kept next taken entry given put h all =
     ap (λ xs. xs ++ put) h.gave
     ∙ (append_assoc (all_given j [] taken) (take next (gives j (build_rows taken) entry)) put
     ∙ (ap (λ xs. all_given j [] taken ++ xs) all ∙ sym (given-push j taken entry)))
 
-no_row_more : (kept : SideRows) (taken : List Entry) (entry : Entry) → sides_of (build_items entry) ≡ [] → Keeps kept (build_rows taken) → Keeps kept (build_rows (taken ++ entry ∷ []))
+no_row_more : (kept : SideRows) (taken : List CallEntry) (entry : CallEntry) → sides_of (build_items entry) ≡ [] → Keeps kept (build_rows taken) → Keeps kept (build_rows (taken ++ entry ∷ []))
 no_row_more kept taken entry none h key =
     h key ∙ ap (rows_with key) (sym (rows-push taken entry ∙ (ap (λ rs. build_rows taken ++ rs) none ∙ append-nil (build_rows taken))))
 
@@ -38,7 +38,7 @@ take_none : (next : ℕ) → next ≡ 0 → (xs : List Item) → take next xs �
 take_none next h xs = ap (λ n. take n xs) h
 
 -- ---- an item that passes, or the mark
-pass_true : (j : Joining) (kept : SideRows) (next : ℕ) (taken : List Entry) (entry : Entry) (x : Item) (given : List Item) → ((rows : List SideValue) → gives j rows entry ≡ x ∷ []) → sides_of (build_items entry) ≡ []
+pass_true : (j : Joining) (kept : SideRows) (next : ℕ) (taken : List CallEntry) (entry : CallEntry) (x : Item) (given : List Item) → ((rows : List SideValue) → gives j rows entry ≡ x ∷ []) → sides_of (build_items entry) ≡ []
     → JoinAmid j kept next taken entry given → JoinStands j kept next (taken ++ entry ∷ []) (given ++ x ∷ [])
 pass_true j kept next taken entry x given one none h =
     let start : next ≡ 0 = at_start next (length (gives j (build_rows taken) entry)) h.place (rw (one (build_rows taken)) (omega arith)) in
@@ -48,7 +48,7 @@ pass_true j kept next taken entry x given one none h =
       gave = ended j kept next taken entry given (x ∷ []) h (ap (λ xs. xs ++ x ∷ []) (take_none next start (gives j (build_rows taken) entry)) ∙ sym (one (build_rows taken)));
     }
 
-pub pass_call : (p : JoinP) (entry : Entry) (x : Item) (before after : Held) (b : Bool) → (b ≡ true → after ≡ record before { items = before.items ++ x ∷ [] }) → (b ≡ false → after ≡ before) → (b ≡ false → length before.items ≡ before.room)
+pub pass_call : (p : JoinP) (entry : CallEntry) (x : Item) (before after : BoxView) (b : Bool) → (b ≡ true → after ≡ record before { items = before.items ++ x ∷ [] }) → (b ≡ false → after ≡ before) → (b ≡ false → length before.items ≡ before.room)
     → ((rows : List SideValue) → gives p.setting rows entry ≡ x ∷ []) → sides_of (build_items entry) ≡ [] → JoinCall p entry before (Ok b) p after
 pass_call p entry x before after true put kept full one none = record {
   put = x ∷ [];
@@ -101,7 +101,7 @@ no_row queue (item.Mark m) h = refl
 no_row queue item.Done h = refl
 
 -- ---- an entry that gives nothing
-none_true : (j : Joining) (kept : SideRows) (next : ℕ) (taken : List Entry) (entry : Entry) (given : List Item) → ((rows : List SideValue) → gives j rows entry ≡ []) → sides_of (build_items entry) ≡ []
+none_true : (j : Joining) (kept : SideRows) (next : ℕ) (taken : List CallEntry) (entry : CallEntry) (given : List Item) → ((rows : List SideValue) → gives j rows entry ≡ []) → sides_of (build_items entry) ≡ []
     → JoinAmid j kept next taken entry given → JoinStands j kept next (taken ++ entry ∷ []) (given ++ [])
 none_true j kept next taken entry given one none h =
     let start : next ≡ 0 = at_start next (length (gives j (build_rows taken) entry)) h.place (rw (one (build_rows taken)) (omega arith)) in
@@ -111,7 +111,7 @@ none_true j kept next taken entry given one none h =
       gave = ended j kept next taken entry given [] h (ap (λ xs. xs ++ []) (take_none next start (gives j (build_rows taken) entry)) ∙ sym (one (build_rows taken)));
     }
 
-pub none_call : (p : JoinP) (entry : Entry) (before : Held) → ((rows : List SideValue) → gives p.setting rows entry ≡ []) → sides_of (build_items entry) ≡ [] → JoinCall p entry before (Ok true) p before
+pub none_call : (p : JoinP) (entry : CallEntry) (before : BoxView) → ((rows : List SideValue) → gives p.setting rows entry ≡ []) → sides_of (build_items entry) ≡ [] → JoinCall p entry before (Ok true) p before
 none_call p entry before one none = record {
   put = [];
   settings = refl;
@@ -123,7 +123,7 @@ none_call p entry before one none = record {
 }
 
 -- ---- a side row
-pub keep_call : (p q : JoinP) (queue : ℕ) (s : SideValue) (before : Held) → q.setting ≡ p.setting → q.next ≡ p.next → ((key : List ℕ) → kept_with key q.rows ≡ kept_with key p.rows ++ rows_with key (s ∷ []))
+pub keep_call : (p q : JoinP) (queue : ℕ) (s : SideValue) (before : BoxView) → q.setting ≡ p.setting → q.next ≡ p.next → ((key : List ℕ) → kept_with key q.rows ≡ kept_with key p.rows ++ rows_with key (s ∷ []))
     → JoinCall p (Given Build queue (item.Side s)) before (Ok true) q before
 keep_call p q queue s before setting next kept = record {
   put = [];
@@ -133,7 +133,7 @@ keep_call p q queue s before setting next kept = record {
   full = λ h. absurd (cc);
   wants = tt;
   keeps = λ taken given h.
-      let entry : Entry = Given Build queue (item.Side s) in
+      let entry : CallEntry = Given Build queue (item.Side s) in
       let start : p.next ≡ 0 = at_start p.next 0 h.place (omega arith) in
       record {
         keeps = λ key. kept key ∙ (ap (λ rs. rs ++ rows_with key (s ∷ [])) (h.keeps key)
@@ -143,7 +143,7 @@ keep_call p q queue s before setting next kept = record {
       };
 }
 
-pub want_call : (p q : JoinP) (queue : ℕ) (s : SideValue) (before : Held) (r : Result Bool NoMemory) → IsErr r → q.setting ≡ p.setting → q.next ≡ p.next → ((key : List ℕ) → kept_with key q.rows ≡ kept_with key p.rows)
+pub want_call : (p q : JoinP) (queue : ℕ) (s : SideValue) (before : BoxView) (r : Result Bool NoMemory) → IsErr r → q.setting ≡ p.setting → q.next ≡ p.next → ((key : List ℕ) → kept_with key q.rows ≡ kept_with key p.rows)
     → JoinCall p (Given Build queue (item.Side s)) before r q before
 want_call p q queue s before (Ok b) err setting next kept = absurd (cc)
 want_call p q queue s before (Err e) err setting next kept = record {
@@ -166,10 +166,10 @@ want_call p q queue s before (Err e) err setting next kept = record {
 same_items : (j : Joining) (kept : SideRows) (rows : List SideValue) (e : EventValue) → Keeps kept rows → items_over j (kept_with e.key kept) e ≡ items_over j (rows_with e.key rows) e
 same_items j kept rows e h = ap (λ rs. map item.Event (or_itself j.left e (map (joined_with j e) rs))) (h e.key)
 
-pub event_place : (j : Joining) (kept : SideRows) (next : ℕ) (taken : List Entry) (queue : ℕ) (e : EventValue) (given : List Item) → JoinAmid j kept next taken (Given Stream queue (item.Event e)) given → next ≤ length (items_over j (kept_with e.key kept) e) - 1
+pub event_place : (j : Joining) (kept : SideRows) (next : ℕ) (taken : List CallEntry) (queue : ℕ) (e : EventValue) (given : List Item) → JoinAmid j kept next taken (Given Stream queue (item.Event e)) given → next ≤ length (items_over j (kept_with e.key kept) e) - 1
 event_place j kept next taken queue e given h = rw (same_items j kept (build_rows taken) e h.keeps) h.place
 
-pub event_call : (p q : JoinP) (queue : ℕ) (e : EventValue) (before after : Held) (b : Bool) → q.setting ≡ p.setting → q.rows ≡ p.rows → after.room ≡ before.room
+pub event_call : (p q : JoinP) (queue : ℕ) (e : EventValue) (before after : BoxView) (b : Bool) → q.setting ≡ p.setting → q.rows ≡ p.rows → after.room ≡ before.room
     → Puts (items_over p.setting (kept_with e.key p.rows) e) p.next before.items b q.next after.items → (b ≡ false → length after.items ≡ after.room) → JoinCall p (Given Stream queue (item.Event e)) before (Ok b) q after
 event_call p q queue e before after true setting rows room m full = record {
   put = m.put;
@@ -179,7 +179,7 @@ event_call p q queue e before after true setting rows room m full = record {
   full = λ h. absurd (cc);
   wants = tt;
   keeps = λ taken given h.
-      let entry : Entry = Given Stream queue (item.Event e) in
+      let entry : CallEntry = Given Stream queue (item.Event e) in
       let same : items_over p.setting (kept_with e.key p.rows) e ≡ gives p.setting (build_rows taken) entry = same_items p.setting p.rows (build_rows taken) e h.keeps in
       record {
         keeps = λ key. ap (kept_with key) rows ∙ no_row_more p.rows taken entry refl h.keeps key;
@@ -195,7 +195,7 @@ event_call p q queue e before after false setting rows room m full = record {
   full = λ h. full refl;
   wants = tt;
   keeps = λ taken given h.
-      let entry : Entry = Given Stream queue (item.Event e) in
+      let entry : CallEntry = Given Stream queue (item.Event e) in
       let same : items_over p.setting (kept_with e.key p.rows) e ≡ gives p.setting (build_rows taken) entry = same_items p.setting p.rows (build_rows taken) e h.keeps in
       record {
         keeps = λ key. ap (kept_with key) rows ∙ h.keeps key;

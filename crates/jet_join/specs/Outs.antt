@@ -10,27 +10,27 @@ use Rattle.jet_items.specs.Kinds.{events_of, sides_of, as_event, as_side}
 use Rattle.jet_items.specs.declared.item.Item.{Item}
 use Rattle.jet_items.specs.declared.item.Item.TheVariants as item
 use Rattle.jet_items.proofs.Bags.{SameBag-refl}
-use Rattle.jet_boxes.specs.Entry.{Entry, Given, Told, Closed, Finish, entry_items, items_of}
+use Rattle.jet_boxes.specs.Entry.{CallEntry, Given, MarkTold, QueueClosed, Finish, entry_items, items_of}
 use Rattle.jet_boxes.specs.declared.port.Port.TheVariants.{Stream, Build}
 use Rattle.jet_boxes.specs.Ports.{stream_items, build_items, stream_events, build_rows, build_events, stream_sides, BuildFirst}
 use Rattle.jet_join.specs.Stands.{gives, with_rows, all_given}
 
-pub with_rows-append : (rows : List SideValue) (es fs : List Entry) → with_rows rows (es ++ fs) ≡ with_rows rows es ++ with_rows (rows ++ build_rows es) fs
+pub with_rows-append : (rows : List SideValue) (es fs : List CallEntry) → with_rows rows (es ++ fs) ≡ with_rows rows es ++ with_rows (rows ++ build_rows es) fs
 with_rows-append rows [] fs = ap (λ rs. with_rows rs fs) (sym (append-nil rows))
 with_rows-append rows (e ∷ es) fs =
     ap (λ ps. (rows, e) ∷ ps) (with_rows-append (rows ++ sides_of (build_items e)) es fs
     ∙ ap (λ rs. with_rows (rows ++ sides_of (build_items e)) es ++ with_rows rs fs) (append_assoc rows (sides_of (build_items e)) (build_rows es)))
 
-pub given-append : (j : Joining) (rows : List SideValue) (es fs : List Entry) → all_given j rows (es ++ fs) ≡ all_given j rows es ++ all_given j (rows ++ build_rows es) fs
+pub given-append : (j : Joining) (rows : List SideValue) (es fs : List CallEntry) → all_given j rows (es ++ fs) ≡ all_given j rows es ++ all_given j (rows ++ build_rows es) fs
 given-append j rows es fs =
     ap (flat_map (λ p. gives j p.0 p.1)) (with_rows-append rows es fs)
     ∙ flat_map-append (λ p. gives j p.0 p.1) (with_rows rows es) (with_rows (rows ++ build_rows es) fs)
 
 -- one entry more
-pub given-push : (j : Joining) (taken : List Entry) (e : Entry) → all_given j [] (taken ++ e ∷ []) ≡ all_given j [] taken ++ gives j (build_rows taken) e
+pub given-push : (j : Joining) (taken : List CallEntry) (e : CallEntry) → all_given j [] (taken ++ e ∷ []) ≡ all_given j [] taken ++ gives j (build_rows taken) e
 given-push j taken e = given-append j [] taken (e ∷ []) ∙ ap (λ xs. all_given j [] taken ++ xs) (append-nil (gives j (build_rows taken) e))
 
-pub rows-push : (taken : List Entry) (e : Entry) → build_rows (taken ++ e ∷ []) ≡ build_rows taken ++ sides_of (build_items e)
+pub rows-push : (taken : List CallEntry) (e : CallEntry) → build_rows (taken ++ e ∷ []) ≡ build_rows taken ++ sides_of (build_items e)
 rows-push taken e = flat_map-append (λ e. sides_of (build_items e)) taken (e ∷ []) ∙ ap (λ rs. build_rows taken ++ rs) (append-nil (sides_of (build_items e)))
 
 -- ---- the items of one kind
@@ -38,7 +38,7 @@ none_of : {X : Type 0} (f : Item → List X) → ((d : EventValue) → f (item.E
 none_of f none [] = refl
 none_of f none (d ∷ ds) = ap (λ xs. xs ++ flat_map f (map item.Event ds)) (none d) ∙ none_of f none ds
 
-one_kind : {X : Type 0} (f : Item → List X) (j : Joining) → ((d : EventValue) → f (item.Event d) ≡ []) → ((s : SideValue) → f (item.Side s) ≡ []) → (rows : List SideValue) (e : Entry) → flat_map f (gives j rows e) ≡ flat_map f (entry_items e)
+one_kind : {X : Type 0} (f : Item → List X) (j : Joining) → ((d : EventValue) → f (item.Event d) ≡ []) → ((s : SideValue) → f (item.Side s) ≡ []) → (rows : List SideValue) (e : CallEntry) → flat_map f (gives j rows e) ≡ flat_map f (entry_items e)
 one_kind f j none nor rows (Given Stream q (item.Event e)) = none_of f none (joined j rows e) ∙ sym (append-nil (f (item.Event e)) ∙ none e)
 one_kind f j none nor rows (Given Stream q (item.Side s)) = refl
 one_kind f j none nor rows (Given Stream q (item.Frame g)) = refl
@@ -55,12 +55,12 @@ one_kind f j none nor rows (Given Build q (item.Late l)) = refl
 one_kind f j none nor rows (Given Build q item.Idle) = refl
 one_kind f j none nor rows (Given Build q (item.Mark m)) = refl
 one_kind f j none nor rows (Given Build q item.Done) = refl
-one_kind f j none nor rows (Told t) = refl
-one_kind f j none nor rows (Closed port q) = refl
+one_kind f j none nor rows (MarkTold t) = refl
+one_kind f j none nor rows (QueueClosed port q) = refl
 one_kind f j none nor rows Finish = refl
 
 -- a kind that is neither joined nor kept passes unchanged
-pub same_kind : {X : Type 0} (f : Item → List X) (j : Joining) → ((d : EventValue) → f (item.Event d) ≡ []) → ((s : SideValue) → f (item.Side s) ≡ []) → (rows : List SideValue) (es : List Entry)
+pub same_kind : {X : Type 0} (f : Item → List X) (j : Joining) → ((d : EventValue) → f (item.Event d) ≡ []) → ((s : SideValue) → f (item.Side s) ≡ []) → (rows : List SideValue) (es : List CallEntry)
     → flat_map f (all_given j rows es) ≡ flat_map f (items_of es)
 same_kind f j none nor rows [] = refl
 same_kind f j none nor rows (e ∷ es) =
@@ -70,7 +70,7 @@ same_kind f j none nor rows (e ∷ es) =
     ∙ (ap (λ xs. flat_map f (entry_items e) ++ xs) (same_kind f j none nor more es)
     ∙ sym (flat_map-append f (entry_items e) (items_of es))))
 
-one_sides : (j : Joining) (rows : List SideValue) (e : Entry) → sides_of (gives j rows e) ≡ sides_of (stream_items e)
+one_sides : (j : Joining) (rows : List SideValue) (e : CallEntry) → sides_of (gives j rows e) ≡ sides_of (stream_items e)
 one_sides j rows (Given Stream q (item.Event e)) = none_of as_side (λ d. refl) (joined j rows e)
 one_sides j rows (Given Stream q (item.Side s)) = refl
 one_sides j rows (Given Stream q (item.Frame g)) = refl
@@ -87,11 +87,11 @@ one_sides j rows (Given Build q (item.Late l)) = refl
 one_sides j rows (Given Build q item.Idle) = refl
 one_sides j rows (Given Build q (item.Mark m)) = refl
 one_sides j rows (Given Build q item.Done) = refl
-one_sides j rows (Told t) = refl
-one_sides j rows (Closed port q) = refl
+one_sides j rows (MarkTold t) = refl
+one_sides j rows (QueueClosed port q) = refl
 one_sides j rows Finish = refl
 
-pub same_sides : (j : Joining) (rows : List SideValue) (es : List Entry) → sides_of (all_given j rows es) ≡ stream_sides es
+pub same_sides : (j : Joining) (rows : List SideValue) (es : List CallEntry) → sides_of (all_given j rows es) ≡ stream_sides es
 same_sides j rows [] = refl
 same_sides j rows (e ∷ es) =
     let more : List SideValue = rows ++ sides_of (build_items e) in
@@ -104,7 +104,7 @@ all_of_them : (ds : List EventValue) → events_of (map item.Event ds) ≡ ds
 all_of_them [] = refl
 all_of_them (d ∷ ds) = ap (λ es. d ∷ es) (all_of_them ds)
 
-one_events : (j : Joining) (rows : List SideValue) (e : Entry) → events_of (gives j rows e) ≡ flat_map (joined j rows) (events_of (stream_items e)) ++ events_of (build_items e)
+one_events : (j : Joining) (rows : List SideValue) (e : CallEntry) → events_of (gives j rows e) ≡ flat_map (joined j rows) (events_of (stream_items e)) ++ events_of (build_items e)
 one_events j rows (Given Stream q (item.Event e)) = all_of_them (joined j rows e) ∙ sym (append-nil (joined j rows e ++ []) ∙ append-nil (joined j rows e))
 one_events j rows (Given Stream q (item.Side s)) = refl
 one_events j rows (Given Stream q (item.Frame g)) = refl
@@ -121,8 +121,8 @@ one_events j rows (Given Build q (item.Late l)) = refl
 one_events j rows (Given Build q item.Idle) = refl
 one_events j rows (Given Build q (item.Mark m)) = refl
 one_events j rows (Given Build q item.Done) = refl
-one_events j rows (Told t) = refl
-one_events j rows (Closed port q) = refl
+one_events j rows (MarkTold t) = refl
+one_events j rows (QueueClosed port q) = refl
 one_events j rows Finish = refl
 
 front_none : {X : Type 0} (xs ys : List X) → xs ++ ys ≡ [] → (xs ≡ []) × (ys ≡ [])
@@ -130,7 +130,7 @@ front_none [] ys h = (refl, h)
 front_none (x ∷ xs) ys h = absurd (cc)
 
 -- while no event of the stream comes, only those of the build port are given
-events_before : (j : Joining) (rows : List SideValue) (es : List Entry) → stream_events es ≡ [] → events_of (all_given j rows es) ≡ build_events es
+events_before : (j : Joining) (rows : List SideValue) (es : List CallEntry) → stream_events es ≡ [] → events_of (all_given j rows es) ≡ build_events es
 events_before j rows [] h = refl
 events_before j rows (e ∷ es) h =
     let more : List SideValue = rows ++ sides_of (build_items e) in
@@ -140,7 +140,7 @@ events_before j rows (e ∷ es) h =
     ∙ ap (λ xs. events_of (build_items e) ++ xs) (events_before j more es none.1))
 
 -- once no row comes any more, each event is joined with the same rows
-events_after : (j : Joining) (rows : List SideValue) (es : List Entry) → build_rows es ≡ [] → SameBag (events_of (all_given j rows es)) (flat_map (joined j rows) (stream_events es) ++ build_events es)
+events_after : (j : Joining) (rows : List SideValue) (es : List CallEntry) → build_rows es ≡ [] → SameBag (events_of (all_given j rows es)) (flat_map (joined j rows) (stream_events es) ++ build_events es)
 events_after j rows [] h = SameBag-refl []
 events_after j rows (e ∷ es) h =
     let none = front_none (sides_of (build_items e)) (build_rows es) h in
@@ -156,7 +156,7 @@ events_after j rows (e ∷ es) h =
     shuffled : (ps qs rest rs ss : List EventValue) → SameBag rest (rs ++ ss) → SameBag ((ps ++ qs) ++ rest) ((ps ++ rs) ++ (qs ++ ss))
     shuffled ps qs rest rs ss h = record { weighs = λ w. omega (arith, h.weighs w, sum_by-append w (ps ++ qs) rest, sum_by-append w ps qs, sum_by-append w rs ss, sum_by-append w (ps ++ rs) (qs ++ ss), sum_by-append w ps rs, sum_by-append w qs ss) }
 
-pub events_are : (j : Joining) (taken : List Entry) → BuildFirst taken → SameBag (events_of (all_given j [] taken)) (flat_map (joined j (build_rows taken)) (stream_events taken) ++ build_events taken)
+pub events_are : (j : Joining) (taken : List CallEntry) → BuildFirst taken → SameBag (events_of (all_given j [] taken)) (flat_map (joined j (build_rows taken)) (stream_events taken) ++ build_events taken)
 events_are j taken h =
     let rows : build_rows taken ≡ build_rows h.front =
     ap build_rows h.parts ∙ (flat_map-append (λ e. sides_of (build_items e)) h.front h.back ∙ (ap (λ rs. build_rows h.front ++ rs) h.no_row ∙ append-nil (build_rows h.front))) in

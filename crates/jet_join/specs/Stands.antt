@@ -6,7 +6,7 @@ use Rattle.jet_items.specs.Joins.{Joining, joined_with, or_itself, rows_with}
 use Rattle.jet_items.specs.Kinds.{sides_of}
 use Rattle.jet_items.specs.declared.item.Item.{Item}
 use Rattle.jet_items.specs.declared.item.Item.TheVariants as item
-use Rattle.jet_boxes.specs.Entry.{Entry, Given, Told, Closed, Finish}
+use Rattle.jet_boxes.specs.Entry.{CallEntry, Given, MarkTold, QueueClosed, Finish}
 use Rattle.jet_boxes.specs.declared.port.Port.TheVariants.{Stream, Build}
 use Rattle.jet_join.specs.declared.side_rows.SideRows.{SideRows}
 use Rattle.jet_join.specs.Kept.{kept_with}
@@ -38,20 +38,20 @@ build_gives (item.Mark m) = item.Mark m ∷ []
 build_gives item.Done = item.Done ∷ []
 
 -- what an entry gives over the rows that were taken before it
-abbrev pub gives : Joining → List SideValue → Entry → List Item
+abbrev pub gives : Joining → List SideValue → CallEntry → List Item
 gives j rows (Given Stream queue x) = stream_gives j rows x
 gives j rows (Given Build queue x) = build_gives x
-gives j rows (Told t) = item.Mark t ∷ []
-gives j rows (Closed port queue) = []
+gives j rows (MarkTold t) = item.Mark t ∷ []
+gives j rows (QueueClosed port queue) = []
 gives j rows Finish = []
 
 -- each entry with the rows that were taken before it, after these
-abbrev pub with_rows : List SideValue → List Entry → List (List SideValue × Entry)
+abbrev pub with_rows : List SideValue → List CallEntry → List (List SideValue × CallEntry)
 with_rows rows [] = []
 with_rows rows (e ∷ es) = (rows, e) ∷ with_rows (rows ++ sides_of (build_items e)) es
 
 -- what they all give, one after another
-abbrev pub all_given : Joining → List SideValue → List Entry → List Item
+abbrev pub all_given : Joining → List SideValue → List CallEntry → List Item
 all_given j rows taken = flat_map (λ p. gives j p.0 p.1) (with_rows rows taken)
 
 -- the rows are kept by their keys
@@ -59,13 +59,13 @@ abbrev pub Keeps : SideRows → List SideValue → Type 0
 Keeps kept rows = (key : List ℕ) → kept_with key kept ≡ rows_with key rows
 
 -- between two calls no event is in hand, and what was given is what the entries give
-pub record JoinStands (j : Joining) (kept : SideRows) (next : ℕ) (taken : List Entry) (given : List Item) : Type 0 where
+pub record JoinStands (j : Joining) (kept : SideRows) (next : ℕ) (taken : List CallEntry) (given : List Item) : Type 0 where
   pub keeps : Keeps kept (build_rows taken)
   pub start : next ≡ 0
   pub gave : given ≡ all_given j [] taken
 
 -- in the middle of an entry as many items were put as `next` says
-pub record JoinAmid (j : Joining) (kept : SideRows) (next : ℕ) (taken : List Entry) (entry : Entry) (given : List Item) : Type 0 where
+pub record JoinAmid (j : Joining) (kept : SideRows) (next : ℕ) (taken : List CallEntry) (entry : CallEntry) (given : List Item) : Type 0 where
   pub keeps : Keeps kept (build_rows taken)
   pub place : next ≤ length (gives j (build_rows taken) entry) - 1
   pub gave : given ≡ all_given j [] taken ++ take next (gives j (build_rows taken) entry)

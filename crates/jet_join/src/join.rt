@@ -5,7 +5,7 @@ ghost use Rattle.std.proofs.Common.{◌∙◌};
 ghost use Rattle.jet_items.specs.Kinds.{marks_of, sides_of};
 ghost use Rattle.jet_items.specs.Order.{Each, Sound, Closed as ClosedItems};
 ghost use Rattle.jet_items.specs.declared.item.Item.{Item};
-ghost use Rattle.jet_boxes.specs.Entry.{Entry, Given, Told, Closed, Finish, items_of};
+ghost use Rattle.jet_boxes.specs.Entry.{CallEntry, Given, MarkTold, QueueClosed, Finish, items_of};
 ghost use Rattle.jet_boxes.specs.Calls.{Call, MayCall};
 ghost use Rattle.jet_join.specs.Bag.{JoinBag};
 ghost use Rattle.jet_join.specs.Calls.{Stands, Amid, JoinCall, JoinMayCall, setting_of};
@@ -136,14 +136,14 @@ impl Processor for JoinP {
     }
 
     fn mark(&mut self, mark: Mark, out: &mut Outbox) -> Result<bool, NoMemory>
-        ensures call { JoinCall self.old (Told mark) out.old result self.new out.new }
+        ensures call { JoinCall self.old (MarkTold mark) out.old result self.new out.new }
         ensures memory { IsOk result }
     {
         Ok(put(out, Item::Mark(mark)))
     }
 
     fn close_queue(&mut self, port: Port, queue: u32, out: &mut Outbox) -> bool
-        ensures call { JoinCall self.old (Closed port queue) out.old (Ok result) self.new out.new }
+        ensures call { JoinCall self.old (QueueClosed port queue) out.old (Ok result) self.new out.new }
         ensures ends { result ≡ true }
     {
         true

@@ -1,7 +1,7 @@
 // Joins of a few events, through a box of one place and a wider one.
 ghost use Rattle.std.specs.Prelude.{◌≤◌, IfSome};
 ghost use Rattle.jet_boxes.specs.Entry.{IsData};
-ghost use Rattle.jet_join.specs.Histories.{IsOpen};
+ghost use Rattle.jet_join.specs.inner.Histories.{IsOpen};
 
 use super::*;
 use jet_boxes::{Outbox, Port, Processor};

@@ -12,7 +12,7 @@ use Rattle.jet_items.specs.Kinds.{as_event, as_side, as_frame, as_row, as_late, 
 use Rattle.jet_items.specs.Values.{EventValue, SideValue, FrameValue, RowValue, LateValue}
 use Rattle.jet_items.proofs.Bags.{SameBag-refl, SameBag-sym, SameBag-trans, SameBag-flat_map, SameBag-map, SameBag-filter}
 use Rattle.jet_boxes.specs.declared.port.Port.TheVariants.{Stream, Build}
-use Rattle.jet_boxes.specs.Entry.{Entry, Given, Told, Closed, Finish, items_of}
+use Rattle.jet_boxes.specs.Entry.{CallEntry, Given, MarkTold, QueueClosed, Finish, items_of}
 use Rattle.jet_boxes.specs.Ports.{stream_items, build_items, stream_events, build_rows, build_events}
 use Rattle.jet_join.specs.Bag.{JoinBag}
 use Rattle.jet_join.specs.Calls.{setting_of}
@@ -42,7 +42,7 @@ use Rattle.jet_run.specs.Ended.{all_data, StageEnded, StampEnded, JoinEnded, Fra
 use Rattle.jet_run.proofs.Bags.{empty_bag, kind_bag, flat_flat, flat_bags, none_else}
 
 -- ---- stages
-stage_ended : (f : List EventValue → List EventValue) → ((xs ys : List EventValue) → SameBag xs ys → SameBag (f xs) (f ys)) → (inputs : List InputView) (outputs : List OutputView) (taken : List Entry) (given : List Item)
+stage_ended : (f : List EventValue → List EventValue) → ((xs ys : List EventValue) → SameBag xs ys → SameBag (f xs) (f ys)) → (inputs : List InputView) (outputs : List OutputView) (taken : List CallEntry) (given : List Item)
     → Over (StageBag f) inputs outputs taken given → StageEnded f inputs given
 stage_ended f bags inputs outputs taken given o = record {
   events = SameBag-trans o.follows.events (bags (events_of (items_of taken)) (events_of (all_data inputs)) (kind_bag as_event (λ m. refl) refl (items_of taken) (all_data inputs) o.told.merged));
@@ -50,7 +50,7 @@ stage_ended f bags inputs outputs taken given o = record {
 }
 
 -- a stamp leaves out idle notes
-stamp_ended : (inputs : List InputView) (outputs : List OutputView) (taken : List Entry) (given : List Item)
+stamp_ended : (inputs : List InputView) (outputs : List OutputView) (taken : List CallEntry) (given : List Item)
     → Over StampBag inputs outputs taken given → StampEnded inputs given
 stamp_ended inputs outputs taken given o = record {
   events = subst (λ (es : List EventValue). SameBag es (events_of (all_data inputs))) (sym (bag_events taken given o.follows)) (kind_bag as_event (λ m. refl) refl (items_of taken) (all_data inputs) o.told.merged);
@@ -69,7 +69,7 @@ or_bags left e (x ∷ xs) (y ∷ ys) h = h
 pub joined_bags : (j : Joining) (rs ss : List SideValue) → SameBag rs ss → (e : EventValue) → SameBag (joined j rs e) (joined j ss e)
 joined_bags j rs ss h e = or_bags j.left e (map (joined_with j e) (rows_with e.key rs)) (map (joined_with j e) (rows_with e.key ss)) (SameBag-map (joined_with j e) (SameBag-filter _ h))
 
-join_ended : (j : Joining) (inputs : List InputView) (outputs : List OutputView) (taken : List Entry) (given : List Item)
+join_ended : (j : Joining) (inputs : List InputView) (outputs : List OutputView) (taken : List CallEntry) (given : List Item)
     → Over (JoinBag j) inputs outputs taken given → events_of (data_received Build inputs) ≡ [] → JoinEnded j inputs given
 join_ended j inputs outputs taken given o none =
     let stream : SameBag (stream_events taken) (events_of (data_received Stream inputs)) =
@@ -102,7 +102,7 @@ own_lates vertex slide last (item.Idle ∷ xs) h = own_lates vertex slide last x
 own_lates vertex slide last (item.Mark m ∷ xs) h = own_lates vertex slide (Some m) xs h
 own_lates vertex slide last (item.Done ∷ xs) h = own_lates vertex slide last xs h
 
-frame_ended : FramesSumKept → (vertex : ℕ) (slide : ℤ) (held : List FrameValue) (inputs : List InputView) (outputs : List OutputView) (taken : List Entry) (given : List Item)
+frame_ended : FramesSumKept → (vertex : ℕ) (slide : ℤ) (held : List FrameValue) (inputs : List InputView) (outputs : List OutputView) (taken : List CallEntry) (given : List Item)
     → Over (λ taken given. FrameBag vertex slide None held taken taken given) inputs outputs taken given
     → others_of (all_data inputs) ≡ [] → FrameEnded vertex slide inputs given
 frame_ended law vertex slide held inputs outputs taken given o none =
@@ -121,14 +121,14 @@ frame_ended law vertex slide held inputs outputs taken given o none =
     }
 
 -- ---- the second stage
-finish_last : (front : List Entry) → is_finished (front ++ Finish ∷ []) ≡ true
+finish_last : (front : List CallEntry) → is_finished (front ++ Finish ∷ []) ≡ true
 finish_last [] = refl
 finish_last (Given port q x ∷ front) = finish_last front
-finish_last (Told t ∷ front) = finish_last front
-finish_last (Closed port q ∷ front) = finish_last front
+finish_last (MarkTold t ∷ front) = finish_last front
+finish_last (QueueClosed port q ∷ front) = finish_last front
 finish_last (Finish ∷ front) = refl
 
-combine_ended : (vertex : ℕ) (size slide : ℤ) (held : List FrameValue) (inputs : List InputView) (outputs : List OutputView) (taken : List Entry) (given : List Item)
+combine_ended : (vertex : ℕ) (size slide : ℤ) (held : List FrameValue) (inputs : List InputView) (outputs : List OutputView) (taken : List CallEntry) (given : List Item)
     → Over (λ taken given. CombineBag vertex size slide None [] held (due_after taken) (StageInput taken) taken given) inputs outputs taken given
     → EachReceived ClosedItems inputs → rows_of (all_data inputs) ≡ [] → CombineEnded vertex size slide inputs given
 combine_ended vertex size slide held inputs outputs taken given o all none =

@@ -14,7 +14,7 @@ use Rattle.jet_items.specs.Values.{EventValue, SideValue, FrameValue, RowValue}
 use Rattle.jet_items.proofs.Bags.{sum_by-flat_map}
 use Rattle.jet_items.proofs.Orders.{Closed-front}
 use Rattle.jet_boxes.specs.declared.port.Port.TheVariants.{Stream}
-use Rattle.jet_boxes.specs.Entry.{Entry, entry_items, items_of}
+use Rattle.jet_boxes.specs.Entry.{CallEntry, entry_items, items_of}
 use Rattle.jet_expr.specs.Flows.{mapped, passes}
 use Rattle.jet_join.specs.Calls.{setting_of}
 use Rattle.jet_router.specs.Deals.{Deal, reaches_dest, sent_by, items_dealt}
@@ -46,7 +46,7 @@ use Rattle.jet_run.proofs.JoinSoFar.{join_gives}
 use Rattle.jet_run.proofs.SoFar.{by_state, one_more, sub_done, sub_of, sub_kind, stage_gives, frame_gives, load_two}
 
 -- ---- a second stage
-sub_rows : (inputs : List InputView) (told taken more : List Entry) (given held : List Item) (own : List RowValue) → IsTold inputs told → told ≡ taken ++ more → SameBag (rows_of (given ++ held)) (rows_of (items_of taken) ++ own) → SubBag (rows_of given) (rows_of (all_data inputs) ++ own)
+sub_rows : (inputs : List InputView) (told taken more : List CallEntry) (given held : List Item) (own : List RowValue) → IsTold inputs told → told ≡ taken ++ more → SameBag (rows_of (given ++ held)) (rows_of (items_of taken) ++ own) → SubBag (rows_of given) (rows_of (all_data inputs) ++ own)
 sub_rows inputs told taken more given held own is parts passed =
     let came : SubBag (rows_of (items_of taken)) (rows_of (all_data inputs)) = sub_kind as_row (λ m. refl) refl inputs told taken more (items_of taken) [] is parts (ap rows_of (append-nil (items_of taken))) in
     record {
@@ -62,13 +62,13 @@ sub_rows inputs told taken more given held own is parts passed =
     }
 
 -- a front of what was told came as it is to come
-front_input : (inputs : List InputView) (told taken more : List Entry) → IsTold inputs told → told ≡ taken ++ more → EachReceived ClosedItems inputs → StageInput taken
+front_input : (inputs : List InputView) (told taken more : List CallEntry) → IsTold inputs told → told ≡ taken ++ more → EachReceived ClosedItems inputs → StageInput taken
 front_input inputs told taken more is parts all = record {
   closed = Closed-front (items_of taken) (items_of more) (subst ClosedItems (ap items_of parts ∙ flat_map-append entry_items taken more) (is.closed all));
-  comes = λ front entry rest at. is.comes front entry (rest ++ more) (parts ∙ (ap (λ (es : List Entry). es ++ more) at ∙ append_assoc front (entry ∷ rest) more));
+  comes = λ front entry rest at. is.comes front entry (rest ++ more) (parts ∙ (ap (λ (es : List CallEntry). es ++ more) at ∙ append_assoc front (entry ∷ rest) more));
 }
 
-combine_part : (vertex : ℕ) (size slide : ℤ) (held_yet : List FrameValue) (due : ℤ → Bool) (input : Type 0) (inputs : List InputView) (told taken more : List Entry) (given held : List Item) → IsTold inputs told → told ≡ taken ++ more
+combine_part : (vertex : ℕ) (size slide : ℤ) (held_yet : List FrameValue) (due : ℤ → Bool) (input : Type 0) (inputs : List InputView) (told taken more : List CallEntry) (given held : List Item) → IsTold inputs told → told ≡ taken ++ more
     → (EachReceived ClosedItems inputs → input) → CombineBag vertex size slide None [] held_yet due input taken (given ++ held) → CombineGives vertex size slide inputs given
 combine_part vertex size slide held_yet due input inputs told taken more given held is parts in_order h = record {
   own = h.own;
@@ -80,7 +80,7 @@ combine_part vertex size slide held_yet due input inputs told taken more given h
   lates = sub_kind as_late (λ m. refl) refl inputs told taken more given held is parts h.lates;
 }
 
-combine_gives : (vertex : ℕ) (size slide : ℤ) (held_yet : List FrameValue) (inputs : List InputView) (told : List Entry) (given : List Item)
+combine_gives : (vertex : ℕ) (size slide : ℤ) (held_yet : List FrameValue) (inputs : List InputView) (told : List CallEntry) (given : List Item)
     → SoFar (λ taken given. CombineBag vertex size slide None [] held_yet (due_after taken) (StageInput taken) taken given) (λ taken entry given. CombineBagAmid vertex size slide None [] held_yet taken entry given) inputs told given
     → CombineGives vertex size slide inputs given
 combine_gives vertex size slide held_yet inputs told given so_far =
@@ -100,14 +100,14 @@ combine_gives vertex size slide held_yet inputs told given so_far =
     }) so_far
 
 -- ---- a stamp passes on all but idle notes
-stamp_part : (inputs : List InputView) (told taken more : List Entry) (given held : List Item) → IsTold inputs told → told ≡ taken ++ more → StampBag taken (given ++ held) → StampGives inputs given
+stamp_part : (inputs : List InputView) (told taken more : List CallEntry) (given held : List Item) → IsTold inputs told → told ≡ taken ++ more → StampBag taken (given ++ held) → StampGives inputs given
 stamp_part inputs told taken more given held is parts h = record {
   events = sub_kind as_event (λ m. refl) refl inputs told taken more given held is parts (bag_events taken (given ++ held) h);
   others = subst (SubBag (others_of given)) (sym (flat_flat as_other unless_idle (all_data inputs)))
       (sub_of as_other (λ x. others_of (unless_idle x)) (λ m. refl) refl inputs told taken more given held is parts (bag_others taken (given ++ held) h ∙ flat_flat as_other unless_idle (items_of taken)));
 }
 
-stamp_gives : (inputs : List InputView) (told : List Entry) (given : List Item) → SoFar StampBag StampBagAmid inputs told given → StampGives inputs given
+stamp_gives : (inputs : List InputView) (told : List CallEntry) (given : List Item) → SoFar StampBag StampBagAmid inputs told given → StampGives inputs given
 stamp_gives inputs told given so_far =
     by_state StampBag StampBagAmid (StampGives inputs) inputs told given
     (λ taken more given parts h. stamp_part inputs told taken more given [] so_far.told parts (subst (StampBag taken) (sym (append-nil given)) h))

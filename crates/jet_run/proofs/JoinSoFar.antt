@@ -12,7 +12,7 @@ use Rattle.jet_items.specs.Kinds.{as_event, as_side, as_frame, as_row, as_late, 
 use Rattle.jet_items.specs.Values.{EventValue, SideValue}
 use Rattle.jet_items.proofs.Bags.{SameBag-trans, SameBag-flat_map, sum_by-flat_map}
 use Rattle.jet_boxes.specs.declared.port.Port.TheVariants.{Stream, Build}
-use Rattle.jet_boxes.specs.Entry.{Entry}
+use Rattle.jet_boxes.specs.Entry.{CallEntry}
 use Rattle.jet_boxes.specs.Ports.{stream_items, build_items, stream_events, build_rows, build_events, BuildFirst}
 use Rattle.jet_join.specs.Bag.{JoinBag}
 use Rattle.jet_tasklet.specs.Inputs.{InputView, all_done}
@@ -25,24 +25,24 @@ use Rattle.jet_run.proofs.Ended.{joined_bags}
 use Rattle.jet_run.proofs.SoFar.{by_state, one_more, sub_done, sub_kind}
 
 -- ---- fronts of what was told
-record Behind (taken more front back : List Entry) : Type 0 where
-  mid : List Entry
+record Behind (taken more front back : List CallEntry) : Type 0 where
+  mid : List CallEntry
   taken_is : taken ≡ front ++ mid
   back_is : back ≡ mid ++ more
 
-record Before (taken more front back : List Entry) : Type 0 where
-  mid : List Entry
+record Before (taken more front back : List CallEntry) : Type 0 where
+  mid : List CallEntry
   front_is : front ≡ taken ++ mid
 
-split : (taken more front back : List Entry) → (taken ++ more) ≡ (front ++ back) → Behind taken more front back ⊎ Before taken more front back
+split : (taken more front back : List CallEntry) → (taken ++ more) ≡ (front ++ back) → Behind taken more front back ⊎ Before taken more front back
 split taken more [] back h = inl (record { mid = taken; taken_is = refl; back_is = sym h })
 split [] more (y ∷ front) back h = inr (record { mid = y ∷ front; front_is = refl })
 split (x ∷ taken) more (y ∷ front) back h =
     let e : x ≡ y = cc in
     let t : (taken ++ more) ≡ (front ++ back) = cc in
     elim (split taken more front back t) [
-      | inl r ↦ inl (record { mid = r.mid; taken_is = ap (λ (z : Entry). z ∷ taken) e ∙ ap (λ (zs : List Entry). y ∷ zs) r.taken_is; back_is = r.back_is })
-      | inr r ↦ inr (record { mid = r.mid; front_is = ap (λ (z : Entry). z ∷ front) (sym e) ∙ ap (λ (zs : List Entry). x ∷ zs) r.front_is })
+      | inl r ↦ inl (record { mid = r.mid; taken_is = ap (λ (z : CallEntry). z ∷ taken) e ∙ ap (λ (zs : List CallEntry). y ∷ zs) r.taken_is; back_is = r.back_is })
+      | inr r ↦ inr (record { mid = r.mid; front_is = ap (λ (z : CallEntry). z ∷ front) (sym e) ∙ ap (λ (zs : List CallEntry). x ∷ zs) r.front_is })
     ]
 
 left_none : {X : Type 0} (xs ys : List X) → (xs ++ ys) ≡ [] → xs ≡ []
@@ -58,11 +58,11 @@ is_empty [] = inl refl
 is_empty (x ∷ xs) = inr (λ h. absurd (cc))
 
 -- up to a front of what was told: builds came first there too, and where an event was taken all rows were
-record SeenRows (all taken : List Entry) : Type 0 where
+record SeenRows (all taken : List CallEntry) : Type 0 where
   first : BuildFirst taken
   rows : (stream_events taken ≡ [] → ⊥) → build_rows all ≡ build_rows taken
 
-seen_rows : (all taken more : List Entry) → BuildFirst all → all ≡ taken ++ more → SeenRows all taken
+seen_rows : (all taken more : List CallEntry) → BuildFirst all → all ≡ taken ++ more → SeenRows all taken
 seen_rows all taken more b is =
     elim (split taken more b.front b.back (sym is ∙ b.parts)) [
       | inl r ↦
@@ -79,7 +79,7 @@ seen_rows all taken more b is =
           }
     ]
 
-module _ (inputs : List InputView) (told : List Entry) (is : IsTold inputs told) (none : events_of (data_received Build inputs) ≡ []) where
+module _ (inputs : List InputView) (told : List CallEntry) (is : IsTold inputs told) (none : events_of (data_received Build inputs) ≡ []) where
   stream_bag : SameBag (stream_events told) (events_of (data_received Stream inputs))
   stream_bag =
       subst (λ (ds : List EventValue). SameBag ds (events_of (data_received Stream inputs))) (flat_flat as_event stream_items told)
@@ -103,11 +103,11 @@ module _ (inputs : List InputView) (told : List Entry) (is : IsTold inputs told)
       by_done true d = d
       by_done false d = absurd (some (sym (flat_flat as_event stream_items told) ∙ (sym (data_same as_event (λ m. refl) refl (streamed told)) ∙ ap events_of (is.waits d))))
 
-  front_events : (taken more : List Entry) (w : EventValue → ℕ) → told ≡ taken ++ more → sum_by w (stream_events taken) ≤ sum_by w (stream_events told)
-  front_events taken more w parts = omega (arith, ap (λ (xs : List Entry). sum_by w (stream_events xs)) parts, ap (sum_by w) (flat_map-append (λ e. events_of (stream_items e)) taken more), sum_by-append w (stream_events taken) (stream_events more))
+  front_events : (taken more : List CallEntry) (w : EventValue → ℕ) → told ≡ taken ++ more → sum_by w (stream_events taken) ≤ sum_by w (stream_events told)
+  front_events taken more w parts = omega (arith, ap (λ (xs : List CallEntry). sum_by w (stream_events xs)) parts, ap (sum_by w) (flat_map-append (λ e. events_of (stream_items e)) taken more), sum_by-append w (stream_events taken) (stream_events more))
 
   events_part : (j : Joining) (rows : List SideValue) → (all_done Build inputs ≡ true → SameBag (sides_of (data_received Build inputs)) rows)
-      → (taken more : List Entry) (given : List Item) → told ≡ taken ++ more → JoinBag j taken given → SubBag (events_of given) (flat_map (joined j rows) (events_of (data_received Stream inputs)))
+      → (taken more : List CallEntry) (given : List Item) → told ≡ taken ++ more → JoinBag j taken given → SubBag (events_of given) (flat_map (joined j rows) (events_of (data_received Stream inputs)))
   events_part j rows whole_rows taken more given parts h =
       let seen = seen_rows told taken more is.build_first parts in
       let no_events : build_events taken ≡ [] = left_none (build_events taken) (build_events more) (sym (flat_map-append (λ e. events_of (build_items e)) taken more) ∙ (ap build_events (sym parts) ∙ no_builds)) in
@@ -134,7 +134,7 @@ module _ (inputs : List InputView) (told : List Entry) (is : IsTold inputs told)
 
   -- with what is held of the next entry
   part : (j : Joining) (rows : List SideValue) → (all_done Build inputs ≡ true → SameBag (sides_of (data_received Build inputs)) rows)
-      → (taken more : List Entry) (given held : List Item) → told ≡ taken ++ more → JoinBag j taken (given ++ held) → JoinGives j rows inputs given
+      → (taken more : List CallEntry) (given held : List Item) → told ≡ taken ++ more → JoinBag j taken (given ++ held) → JoinGives j rows inputs given
   part j rows whole_rows taken more given held parts h =
       let events = events_part j rows whole_rows taken more (given ++ held) parts h in record {
         events = record { weighs = λ w. omega (arith, events.weighs w, ap (sum_by w) (flat_map-append as_event given held), sum_by-append w (events_of given) (events_of held)) };
@@ -151,7 +151,7 @@ module _ (inputs : List InputView) (told : List Entry) (is : IsTold inputs told)
     lates = sub_done as_late refl (lates_of (all_data inputs)) given h.lates;
   }
 
-pub join_gives : (j : Joining) (rows : List SideValue) (inputs : List InputView) (told : List Entry) (given : List Item)
+pub join_gives : (j : Joining) (rows : List SideValue) (inputs : List InputView) (told : List CallEntry) (given : List Item)
     → SoFar (JoinBag j) (λ taken entry given. (held : List Item) × JoinBag j (taken ++ entry ∷ []) (given ++ held)) inputs told given
     → events_of (data_received Build inputs) ≡ [] → (all_done Build inputs ≡ true → SameBag (sides_of (data_received Build inputs)) rows) → JoinGives j rows inputs given
 join_gives j rows inputs told given so_far none whole_rows =

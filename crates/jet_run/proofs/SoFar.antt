@@ -10,7 +10,7 @@ use Rattle.jet_items.specs.declared.item.Item.TheVariants as item
 use Rattle.jet_items.specs.Bag.{SameBag}
 use Rattle.jet_items.specs.Kinds.{as_event, as_side, as_frame, as_row, as_late, as_other, events_of, frames_of, lates_of, late_events, others_of}
 use Rattle.jet_items.specs.Values.{EventValue, FrameValue}
-use Rattle.jet_boxes.specs.Entry.{Entry, entry_items, items_of}
+use Rattle.jet_boxes.specs.Entry.{CallEntry, entry_items, items_of}
 use Rattle.jet_stages.specs.Stage.{StageBag}
 use Rattle.jet_window.specs.FrameStands.{FrameBag}
 use Rattle.jet_window.specs.LateEvents.{kept_events}
@@ -18,16 +18,16 @@ use Rattle.jet_tasklet.specs.Inputs.{InputView}
 use Rattle.jet_tasklet.specs.Over.{IsTold, SoFar}
 use Rattle.jet_run.specs.Ended.{all_data}
 use Rattle.jet_run.specs.SoFar.{SubBag, StageGives, load}
-use Rattle.jet_run.specs.Spread.{IsSpread}
+use Rattle.jet_run.specs.inner.Spread.{IsSpread}
 use Rattle.jet_run.proofs.Bags.{kind_bag}
 
-items_append : (es fs : List Entry) → items_of (es ++ fs) ≡ items_of es ++ items_of fs
+items_append : (es fs : List CallEntry) → items_of (es ++ fs) ≡ items_of es ++ items_of fs
 items_append es fs = flat_map-append entry_items es fs
 
 -- what follows of the entries taken, in whatever state
-pub by_state : (bag : List Entry → List Item → Type 0) (amid : List Entry → Entry → List Item → Type 0) (Q : List Item → Type 0) (inputs : List InputView) (told : List Entry) (given : List Item)
-    → ((taken more : List Entry) (given : List Item) → told ≡ taken ++ more → bag taken given → Q given)
-    → ((taken : List Entry) (entry : Entry) (more : List Entry) (given : List Item) → told ≡ taken ++ entry ∷ more → amid taken entry given → Q given)
+pub by_state : (bag : List CallEntry → List Item → Type 0) (amid : List CallEntry → CallEntry → List Item → Type 0) (Q : List Item → Type 0) (inputs : List InputView) (told : List CallEntry) (given : List Item)
+    → ((taken more : List CallEntry) (given : List Item) → told ≡ taken ++ more → bag taken given → Q given)
+    → ((taken : List CallEntry) (entry : CallEntry) (more : List CallEntry) (given : List Item) → told ≡ taken ++ entry ∷ more → amid taken entry given → Q given)
     → ((given : List Item) → Q given → Q (given ++ item.Done ∷ []))
     → SoFar bag amid inputs told given → Q given
 by_state bag amid Q inputs told given law law_amid ends s =
@@ -40,7 +40,7 @@ by_state bag amid Q inputs told given law law_amid ends s =
     ]
 
 -- one entry more was taken
-pub one_more : (told taken : List Entry) (entry : Entry) (more : List Entry) → told ≡ taken ++ entry ∷ more → told ≡ (taken ++ entry ∷ []) ++ more
+pub one_more : (told taken : List CallEntry) (entry : CallEntry) (more : List CallEntry) → told ≡ taken ++ entry ∷ more → told ≡ (taken ++ entry ∷ []) ++ more
 one_more told taken entry more is = is ∙ sym (append_assoc taken (entry ∷ []) more)
 
 -- ---- one kind of items
@@ -48,7 +48,7 @@ pub sub_done : {X : Type 0} (f : Item → List X) → f item.Done ≡ [] → (al
 sub_done {X} f none all given h = subst (λ (xs : List X). SubBag xs all) (sym (flat_map-append f given (item.Done ∷ []) ∙ (ap (λ (xs : List X). flat_map f given ++ (xs ++ [])) none ∙ append-nil (flat_map f given)))) h
 
 -- what was given of the entries taken, and a part of the next, is among what all that came brings
-pub sub_of : {X : Type 0} (f g : Item → List X) → ((m : ℤ) → g (item.Mark m) ≡ []) → g item.Done ≡ [] → (inputs : List InputView) (told taken more : List Entry) (given held : List Item)
+pub sub_of : {X : Type 0} (f g : Item → List X) → ((m : ℤ) → g (item.Mark m) ≡ []) → g item.Done ≡ [] → (inputs : List InputView) (told taken more : List CallEntry) (given held : List Item)
     → IsTold inputs told → told ≡ taken ++ more → flat_map f (given ++ held) ≡ flat_map g (items_of taken) → SubBag (flat_map f given) (flat_map g (all_data inputs))
 sub_of {X} f g mark done inputs told taken more given held is parts passed = record {
   weighs = λ w. omega (
@@ -57,7 +57,7 @@ sub_of {X} f g mark done inputs told taken more given held is parts passed = rec
     ap (sum_by w) (flat_map-append f given held),
     sum_by-append w (flat_map f given) (flat_map f held),
     (kind_bag g mark done (items_of told) (all_data inputs) is.merged).weighs w,
-    ap (λ (es : List Entry). sum_by w (flat_map g (items_of es))) parts,
+    ap (λ (es : List CallEntry). sum_by w (flat_map g (items_of es))) parts,
     ap (λ (xs : List Item). sum_by w (flat_map g xs)) (items_append taken more),
     ap (sum_by w) (flat_map-append g (items_of taken) (items_of more)),
     sum_by-append w (flat_map g (items_of taken)) (flat_map g (items_of more)),
@@ -65,12 +65,12 @@ sub_of {X} f g mark done inputs told taken more given held is parts passed = rec
 }
 
 -- what was passed on
-pub sub_kind : {X : Type 0} (f : Item → List X) → ((m : ℤ) → f (item.Mark m) ≡ []) → f item.Done ≡ [] → (inputs : List InputView) (told taken more : List Entry) (given held : List Item)
+pub sub_kind : {X : Type 0} (f : Item → List X) → ((m : ℤ) → f (item.Mark m) ≡ []) → f item.Done ≡ [] → (inputs : List InputView) (told taken more : List CallEntry) (given held : List Item)
     → IsTold inputs told → told ≡ taken ++ more → flat_map f (given ++ held) ≡ flat_map f (items_of taken) → SubBag (flat_map f given) (flat_map f (all_data inputs))
 sub_kind f mark done = sub_of f f mark done
 
 -- ---- stages
-stage_part : (f : List EventValue → List EventValue) → IsSpread f → (inputs : List InputView) (told taken more : List Entry) (given held : List Item) → IsTold inputs told → told ≡ taken ++ more → StageBag f taken (given ++ held) → StageGives f inputs given
+stage_part : (f : List EventValue → List EventValue) → IsSpread f → (inputs : List InputView) (told taken more : List CallEntry) (given held : List Item) → IsTold inputs told → told ≡ taken ++ more → StageBag f taken (given ++ held) → StageGives f inputs given
 stage_part f s inputs told taken more given held is parts h = record {
   events = record {
     weighs = λ w. omega (
@@ -79,7 +79,7 @@ stage_part f s inputs told taken more given held is parts h = record {
       ap (sum_by w) (flat_map-append as_event given held),
       sum_by-append w (events_of given) (events_of held),
       (s.bags (events_of (items_of told)) (events_of (all_data inputs)) (kind_bag as_event (λ m. refl) refl (items_of told) (all_data inputs) is.merged)).weighs w,
-      ap (λ (es : List Entry). sum_by w (f (events_of (items_of es)))) parts,
+      ap (λ (es : List CallEntry). sum_by w (f (events_of (items_of es)))) parts,
       ap (λ (xs : List Item). sum_by w (f (events_of xs))) (items_append taken more),
       ap (λ (es : List EventValue). sum_by w (f es)) (flat_map-append as_event (items_of taken) (items_of more)),
       ap (sum_by w) (s.both (events_of (items_of taken)) (events_of (items_of more))),
@@ -95,14 +95,14 @@ stage_done f inputs given h = record {
   others = sub_done as_other refl (others_of (all_data inputs)) given h.others;
 }
 
-nothing : (f : List EventValue → List EventValue) (taken : List Entry) (given : List Item) → StageBag f taken given → StageBag f taken (given ++ [])
+nothing : (f : List EventValue → List EventValue) (taken : List CallEntry) (given : List Item) → StageBag f taken given → StageBag f taken (given ++ [])
 nothing f taken given h = subst (StageBag f taken) (sym (append-nil given)) h
 
 -- a processor whose laws are those of a stage: in the middle of an entry it has given a part of what the entry gives, or nothing yet
-pub stage_gives : (f : List EventValue → List EventValue) (bag : List Entry → List Item → Type 0) (amid : List Entry → Entry → List Item → Type 0) → IsSpread f
-    → ((taken : List Entry) (given : List Item) → bag taken given → StageBag f taken given)
-    → ((taken : List Entry) (entry : Entry) (given : List Item) → amid taken entry given → ((held : List Item) × StageBag f (taken ++ entry ∷ []) (given ++ held)) ⊎ StageBag f taken given)
-    → (inputs : List InputView) (told : List Entry) (given : List Item) → SoFar bag amid inputs told given → StageGives f inputs given
+pub stage_gives : (f : List EventValue → List EventValue) (bag : List CallEntry → List Item → Type 0) (amid : List CallEntry → CallEntry → List Item → Type 0) → IsSpread f
+    → ((taken : List CallEntry) (given : List Item) → bag taken given → StageBag f taken given)
+    → ((taken : List CallEntry) (entry : CallEntry) (given : List Item) → amid taken entry given → ((held : List Item) × StageBag f (taken ++ entry ∷ []) (given ++ held)) ⊎ StageBag f taken given)
+    → (inputs : List InputView) (told : List CallEntry) (given : List Item) → SoFar bag amid inputs told given → StageGives f inputs given
 stage_gives f bag amid s law law_amid inputs told given so_far =
     by_state bag amid (StageGives f inputs) inputs told given
     (λ taken more given parts h. stage_part f s inputs told taken more given [] so_far.told parts (nothing f taken given (law taken given h)))
@@ -126,14 +126,14 @@ count_two f xs ys = ap length (flat_map-append f xs ys) ∙ length-append (flat_
 pub load_two : (xs ys : List Item) → load (xs ++ ys) ≡ load xs + load ys
 load_two xs ys = omega (arith, count_two as_event xs ys, count_two as_side xs ys, count_two as_frame xs ys, count_two as_row xs ys, count_two as_late xs ys)
 
-count_merged : {X : Type 0} (f : Item → List X) → ((m : ℤ) → f (item.Mark m) ≡ []) → f item.Done ≡ [] → (inputs : List InputView) (told : List Entry) → IsTold inputs told → length (flat_map f (items_of told)) ≡ length (flat_map f (all_data inputs))
+count_merged : {X : Type 0} (f : Item → List X) → ((m : ℤ) → f (item.Mark m) ≡ []) → f item.Done ≡ [] → (inputs : List InputView) (told : List CallEntry) → IsTold inputs told → length (flat_map f (items_of told)) ≡ length (flat_map f (all_data inputs))
 count_merged f mark done inputs told is = same_length (flat_map f (items_of told)) (flat_map f (all_data inputs)) (kind_bag f mark done (items_of told) (all_data inputs) is.merged)
 
-load_taken : (inputs : List InputView) (told taken more : List Entry) → IsTold inputs told → told ≡ taken ++ more → load (items_of taken) ≤ load (all_data inputs)
+load_taken : (inputs : List InputView) (told taken more : List CallEntry) → IsTold inputs told → told ≡ taken ++ more → load (items_of taken) ≤ load (all_data inputs)
 load_taken inputs told taken more is parts =
     omega (
       arith,
-      ap (λ (es : List Entry). load (items_of es)) parts,
+      ap (λ (es : List CallEntry). load (items_of es)) parts,
       ap load (items_append taken more),
       load_two (items_of taken) (items_of more),
       count_merged as_event (λ m. refl) refl inputs told is,
@@ -143,7 +143,7 @@ load_taken inputs told taken more is parts =
       count_merged as_late (λ m. refl) refl inputs told is,
     )
 
-frame_part : (vertex : ℕ) (slide : ℤ) (held : List FrameValue) (upto : List Entry) (inputs : List InputView) (told taken more : List Entry) (given : List Item) → IsTold inputs told → told ≡ taken ++ more → FrameBag vertex slide None held upto taken given → load given ≤ load (all_data inputs)
+frame_part : (vertex : ℕ) (slide : ℤ) (held : List FrameValue) (upto : List CallEntry) (inputs : List InputView) (told taken more : List CallEntry) (given : List Item) → IsTold inputs told → told ≡ taken ++ more → FrameBag vertex slide None held upto taken given → load given ≤ load (all_data inputs)
 frame_part vertex slide held upto inputs told taken more given is parts h =
     omega (
       arith,
@@ -161,7 +161,7 @@ frame_part vertex slide held upto inputs told taken more given is parts h =
       load_taken inputs told taken more is parts,
     )
 
-pub frame_gives : (vertex : ℕ) (slide : ℤ) (held : List FrameValue) (inputs : List InputView) (told : List Entry) (given : List Item)
+pub frame_gives : (vertex : ℕ) (slide : ℤ) (held : List FrameValue) (inputs : List InputView) (told : List CallEntry) (given : List Item)
     → SoFar (λ taken given. FrameBag vertex slide None held taken taken given) (λ taken entry given. FrameBag vertex slide None held (taken ++ entry ∷ []) taken given) inputs told given → load given ≤ load (all_data inputs)
 frame_gives vertex slide held inputs told given so_far =
     by_state (λ taken given. FrameBag vertex slide None held taken taken given) (λ taken entry given. FrameBag vertex slide None held (taken ++ entry ∷ []) taken given) (λ xs. load xs ≤ load (all_data inputs)) inputs told given

@@ -34,7 +34,7 @@ use Rattle.jet_tasklet.specs.Merging.{data_received}
 use Rattle.jet_run.specs.Ended.{all_data, EndedByKind}
 use Rattle.jet_tasklet.specs.Views.{ins}
 use Rattle.jet_run.specs.Flows.{IsFor, AreFed, GiveFlow}
-use Rattle.jet_run.specs.Spread.{IsSpread}
+use Rattle.jet_run.specs.inner.Spread.{IsSpread}
 use Rattle.jet_run.proofs.Bags.{flat_bags}
 use Rattle.jet_run.proofs.Ended.{joined_bags}
 

@@ -1,4 +1,4 @@
 pub mod Ended
 pub mod Flows
 pub mod SoFar
-pub mod Spread
+pub mod inner

@@ -17,6 +17,6 @@ pub fn ends_by_kind(tasklet: &AnyTasklet)
     ensures { (came : List Arrival) → (gave : List Item) → AnyKeeps tasklet.now came gave → AnyHasEnded tasklet.now
         → (given : List Item) × (gave ≡ given ++ item.Done ∷ []) × Each (Gave (given ++ item.Done ∷ [])) (outputs_view (outputs_of tasklet.now)) × EndedByKind tasklet.now given }
 {
-    tasklet.ends();
+    tasklet.law_ends();
     frames_sum_kept();
 }

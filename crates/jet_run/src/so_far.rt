@@ -17,5 +17,5 @@ pub fn gives_by_kind(tasklet: &AnyTasklet)
     ensures entered { (came : List Arrival) → (gave : List Item) → AnyKeeps tasklet.now came gave → GivesByKind tasklet.now (gave ++ waiting tasklet.now) }
     ensures sent { (came : List Arrival) → (gave : List Item) → AnyKeeps tasklet.now came gave → EachSent (GivesByKind tasklet.now) (outputs_view (outputs_of tasklet.now)) }
 {
-    tasklet.gives_so_far();
+    tasklet.law_gives_so_far();
 }

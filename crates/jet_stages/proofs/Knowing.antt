@@ -21,7 +21,7 @@ use Rattle.jet_coalescer.specs.Notes.{last_said}
 use Rattle.jet_coalescer.specs.Queues.{unknown, greater, greatest_with, with_queue, with_queue_mark, with_queue_done, with_queue_idle, none_left, HoldsNoneBack, RisesToLeast}
 use Rattle.jet_coalescer.specs.View.{View}
 use Rattle.jet_boxes.specs.declared.port.Port.TheVariants.{Stream}
-use Rattle.jet_boxes.specs.Entry.{Entry, Given, Closed}
+use Rattle.jet_boxes.specs.Entry.{CallEntry, Given, QueueClosed}
 use Rattle.jet_stages.specs.Stamp.{event_from, idle_in, idle_from, queue_events, queue_times, closes, is_closed, is_idle, queue_mark, WasLeast}
 use Rattle.jet_stages.specs.Stamping.{queue_known, LowIs, Knows, Notes, Stamped, StampStands, told_by}
 use Rattle.jet_stages.proofs.Marking.{Reaches, grows}
@@ -66,17 +66,17 @@ or_true : (b : Bool) → (b || true) ≡ true
 or_true true = refl
 or_true false = refl
 
-times_same : (q : ℕ) (taken : List Entry) (entry : Entry) → event_from q entry ≡ [] → queue_times q (taken ++ entry ∷ []) ≡ queue_times q taken
+times_same : (q : ℕ) (taken : List CallEntry) (entry : CallEntry) → event_from q entry ≡ [] → queue_times q (taken ++ entry ∷ []) ≡ queue_times q taken
 times_same q taken entry none =
     ap (map (λ (e : EventValue). e.ts)) (events_next q taken entry ∙ (ap (λ es. queue_events q taken ++ es) none ∙ append-nil (queue_events q taken)))
 
-closed_same : (q : ℕ) (taken : List Entry) (entry : Entry) → closes q entry ≡ false → is_closed q (taken ++ entry ∷ []) ≡ is_closed q taken
+closed_same : (q : ℕ) (taken : List CallEntry) (entry : CallEntry) → closes q entry ≡ false → is_closed q (taken ++ entry ∷ []) ≡ is_closed q taken
 closed_same q taken entry not_this = closed_next q taken entry ∙ (ap (λ b. is_closed q taken || b) not_this ∙ or_false (is_closed q taken))
 
-times_own : (k : ℕ) (taken : List Entry) (e : EventValue) → queue_times k (taken ++ Given Stream k (item.Event e) ∷ []) ≡ queue_times k taken ++ e.ts ∷ []
+times_own : (k : ℕ) (taken : List CallEntry) (e : EventValue) → queue_times k (taken ++ Given Stream k (item.Event e) ∷ []) ≡ queue_times k taken ++ e.ts ∷ []
 times_own k taken e = times_next k taken (Given Stream k (item.Event e)) ∙ ap (λ (b : Bool). queue_times k taken ++ map (λ (x : EventValue). x.ts) (cond b (e ∷ []) [])) (same_queue k)
 
-times_other : (k q : ℕ) (taken : List Entry) (e : EventValue) → (q ≡ k → ⊥) → queue_times q (taken ++ Given Stream k (item.Event e) ∷ []) ≡ queue_times q taken
+times_other : (k q : ℕ) (taken : List CallEntry) (e : EventValue) → (q ≡ k → ⊥) → queue_times q (taken ++ Given Stream k (item.Event e) ∷ []) ≡ queue_times q taken
 times_other k q taken e apart = times_same q taken (Given Stream k (item.Event e)) (ap (λ (b : Bool). cond b (e ∷ []) []) (not_queue (k == q) k q refl apart))
 
 abbrev marker_at : ℤ → ℤ → List ℤ → Option MarkerValue
@@ -88,20 +88,20 @@ queue_of mark done idle = record { mark = mark; done = done; idle = idle }
 queue_is : (m n : Option ℤ) (d e i j : Bool) → m ≡ n → d ≡ e → i ≡ j → queue_of m d i ≡ queue_of n e j
 queue_is m n d e i j ms ds is = ap (λ x. queue_of x d i) ms ∙ (ap (λ x. queue_of n x i) ds ∙ ap (λ x. queue_of n e x) is)
 
-idle_same : (q : ℕ) (taken : List Entry) (entry : Entry) → idle_from q entry ≡ [] → is_idle q (taken ++ entry ∷ []) ≡ is_idle q taken
+idle_same : (q : ℕ) (taken : List CallEntry) (entry : CallEntry) → idle_from q entry ≡ [] → is_idle q (taken ++ entry ∷ []) ≡ is_idle q taken
 idle_same q taken entry none = idle_next q taken entry ∙ (ap (λ bs. last_said (flat_map (idle_from q) taken ++ bs)) none ∙ ap last_said (append-nil (flat_map (idle_from q) taken)))
 
-idle_told : (q : ℕ) (taken : List Entry) (entry : Entry) (b : Bool) → idle_from q entry ≡ b ∷ [] → is_idle q (taken ++ entry ∷ []) ≡ b
+idle_told : (q : ℕ) (taken : List CallEntry) (entry : CallEntry) (b : Bool) → idle_from q entry ≡ b ∷ [] → is_idle q (taken ++ entry ∷ []) ≡ b
 idle_told q taken entry b is = idle_next q taken entry ∙ (ap (λ bs. last_said (flat_map (idle_from q) taken ++ bs)) is ∙ fold_push (λ before now. now) false (flat_map (idle_from q) taken) b)
 
-queue_same : (lag grain : ℤ) (q : ℕ) (taken : List Entry) (entry : Entry) → event_from q entry ≡ [] → closes q entry ≡ false → idle_from q entry ≡ [] → queue_known lag grain q (taken ++ entry ∷ []) ≡ queue_known lag grain q taken
+queue_same : (lag grain : ℤ) (q : ℕ) (taken : List CallEntry) (entry : CallEntry) → event_from q entry ≡ [] → closes q entry ≡ false → idle_from q entry ≡ [] → queue_known lag grain q (taken ++ entry ∷ []) ≡ queue_known lag grain q taken
 queue_same lag grain q taken entry events ends idles =
     queue_is (queue_mark lag grain q (taken ++ entry ∷ [])) (queue_mark lag grain q taken) (is_closed q (taken ++ entry ∷ [])) (is_closed q taken) (is_idle q (taken ++ entry ∷ [])) (is_idle q taken)
     (ap (mark_of lag grain) (times_same q taken entry events)) (closed_same q taken entry ends) (idle_same q taken entry idles)
 
 -- ---- an entry that changes no queue
 
-pub notes_same : (lag grain : ℤ) (markers : List MarkerValue) (queues : View) (taken : List Entry) (entry : Entry) → ((q : ℕ) → event_from q entry ≡ []) → ((q : ℕ) → closes q entry ≡ false) → ((q : ℕ) → idle_from q entry ≡ []) → Knows lag grain markers queues taken → Notes lag grain markers queues markers queues taken entry None
+pub notes_same : (lag grain : ℤ) (markers : List MarkerValue) (queues : View) (taken : List CallEntry) (entry : CallEntry) → ((q : ℕ) → event_from q entry ≡ []) → ((q : ℕ) → closes q entry ≡ false) → ((q : ℕ) → idle_from q entry ≡ []) → Knows lag grain markers queues taken → Notes lag grain markers queues markers queues taken entry None
 notes_same lag grain markers queues taken entry none not_this quiet k =
     let known : AreKnown (length markers) lag grain queues (taken ++ entry ∷ []) = λ q inside. k.queues_are q inside ∙ ap Some (sym (queue_same lag grain q taken entry (none q) (not_this q) (quiet q))) in
     let on = still (length markers) lag grain taken entry queues k.low_is k.count known k.holds in
@@ -127,7 +127,7 @@ pub record Called (queues queues' : View) (k : ℕ) (change : Queue → Queue) (
   pub reaches : HoldsNoneBack queues'
   pub went : Step queues.low queues'.low told
 
-notes_called : (lag grain : ℤ) (markers markers' : List MarkerValue) (queues queues' : View) (taken : List Entry) (entry : Entry) (k : ℕ) (change : Queue → Queue) (told : Option ℤ) → k < length markers → length markers' ≡ length markers → ((q : ℕ) → q < length markers → slice_get markers' q ≡ marker_at lag grain (queue_times q (taken ++ entry ∷ []))) → Called queues queues' k change told → change (queue_known lag grain k taken) ≡ queue_known lag grain k (taken ++ entry ∷ []) → ((q : ℕ) → (q ≡ k → ⊥) → queue_known lag grain q (taken ++ entry ∷ []) ≡ queue_known lag grain q taken) → Knows lag grain markers queues taken → Notes lag grain markers queues markers' queues' taken entry told
+notes_called : (lag grain : ℤ) (markers markers' : List MarkerValue) (queues queues' : View) (taken : List CallEntry) (entry : CallEntry) (k : ℕ) (change : Queue → Queue) (told : Option ℤ) → k < length markers → length markers' ≡ length markers → ((q : ℕ) → q < length markers → slice_get markers' q ≡ marker_at lag grain (queue_times q (taken ++ entry ∷ []))) → Called queues queues' k change told → change (queue_known lag grain k taken) ≡ queue_known lag grain k (taken ++ entry ∷ []) → ((q : ℕ) → (q ≡ k → ⊥) → queue_known lag grain q (taken ++ entry ∷ []) ≡ queue_known lag grain q taken) → Knows lag grain markers queues taken → Notes lag grain markers queues markers' queues' taken entry told
 notes_called lag grain markers markers' queues queues' taken entry k change told inside len markers_are called own others knows =
     let old : Queue = slice_index_or queues.queues k unknown in
     let old_is : old ≡ queue_known lag grain k taken = get_or_from_slice_get queues.queues k (queue_known lag grain k taken) unknown (knows.queues_are k inside) in
@@ -185,15 +185,15 @@ own_list : {X : Type 0} (k : ℕ) (xs : List X) → cond (k == k) xs [] ≡ xs
 own_list {X} k xs = ap (λ (b : Bool). cond b xs []) (same_queue k)
 
 -- an item that is none, and no idle note
-pub notes_other : (lag grain : ℤ) (markers : List MarkerValue) (queues : View) (taken : List Entry) (k : ℕ) (x : Item) → ((e : EventValue) → x ≡ item.Event e → ⊥) → (x ≡ item.Idle → ⊥) → Knows lag grain markers queues taken → Notes lag grain markers queues markers queues taken (Given Stream k x) None
+pub notes_other : (lag grain : ℤ) (markers : List MarkerValue) (queues : View) (taken : List CallEntry) (k : ℕ) (x : Item) → ((e : EventValue) → x ≡ item.Event e → ⊥) → (x ≡ item.Idle → ⊥) → Knows lag grain markers queues taken → Notes lag grain markers queues markers queues taken (Given Stream k x) None
 notes_other lag grain markers queues taken k x not_this not_note =
     notes_same lag grain markers queues taken (Given Stream k x) (λ q. cond_nil (k == q) (as_event x) (not_event x not_this)) (λ q. refl) (λ q. cond_nil (k == q) (idle_in x) (not_idle x not_this not_note))
 
 -- a queue that an item did not come from
-item_other : (lag grain : ℤ) (taken : List Entry) (k : ℕ) (x : Item) (q : ℕ) → (q ≡ k → ⊥) → queue_known lag grain q (taken ++ Given Stream k x ∷ []) ≡ queue_known lag grain q taken
+item_other : (lag grain : ℤ) (taken : List CallEntry) (k : ℕ) (x : Item) (q : ℕ) → (q ≡ k → ⊥) → queue_known lag grain q (taken ++ Given Stream k x ∷ []) ≡ queue_known lag grain q taken
 item_other lag grain taken k x q apart = queue_same lag grain q taken (Given Stream k x) (other_nil k q (as_event x) apart) refl (other_nil k q (idle_in x) apart)
 
-markers_event : (lag grain : ℤ) (markers : List MarkerValue) (queues : View) (taken : List Entry) (k : ℕ) (e : EventValue) (marker : MarkerValue) → k < length markers → Knows lag grain markers queues taken → marker ≡ record { lag = lag; grain = grain; greatest = reduce int_max (queue_times k taken ++ e.ts ∷ []) } → (q : ℕ) → q < length markers → slice_get (slice_set markers k marker) q ≡ marker_at lag grain (queue_times q (taken ++ Given Stream k (item.Event e) ∷ []))
+markers_event : (lag grain : ℤ) (markers : List MarkerValue) (queues : View) (taken : List CallEntry) (k : ℕ) (e : EventValue) (marker : MarkerValue) → k < length markers → Knows lag grain markers queues taken → marker ≡ record { lag = lag; grain = grain; greatest = reduce int_max (queue_times k taken ++ e.ts ∷ []) } → (q : ℕ) → q < length markers → slice_get (slice_set markers k marker) q ≡ marker_at lag grain (queue_times q (taken ++ Given Stream k (item.Event e) ∷ []))
 markers_event lag grain markers queues taken k e marker inside knows is q lt =
     each_queue (λ j. j < length markers → slice_get (slice_set markers k marker) j ≡ marker_at lag grain (queue_times j (taken ++ Given Stream k (item.Event e) ∷ []))) k q
     (λ here. get_same markers k marker inside ∙ (ap Some is ∙ ap (marker_at lag grain) (sym (times_own k taken e))))
@@ -201,9 +201,9 @@ markers_event lag grain markers queues taken k e marker inside knows is q lt =
     lt
 
 -- a queue that was woken by an event, with its mark of now
-queue_event : (lag grain : ℤ) (taken : List Entry) (k : ℕ) (e : EventValue) (ts : ℤ) (mark : Option ℤ) → e.ts ≡ ts → mark ≡ mark_of lag grain (queue_times k taken ++ ts ∷ []) → queue_of mark (is_closed k taken) false ≡ queue_known lag grain k (taken ++ Given Stream k (item.Event e) ∷ [])
+queue_event : (lag grain : ℤ) (taken : List CallEntry) (k : ℕ) (e : EventValue) (ts : ℤ) (mark : Option ℤ) → e.ts ≡ ts → mark ≡ mark_of lag grain (queue_times k taken ++ ts ∷ []) → queue_of mark (is_closed k taken) false ≡ queue_known lag grain k (taken ++ Given Stream k (item.Event e) ∷ [])
 queue_event lag grain taken k e ts mark at is =
-    let entry : Entry = Given Stream k (item.Event e) in
+    let entry : CallEntry = Given Stream k (item.Event e) in
     queue_is mark (queue_mark lag grain k (taken ++ entry ∷ [])) (is_closed k taken) (is_closed k (taken ++ entry ∷ [])) false (is_idle k (taken ++ entry ∷ []))
     (is ∙ (ap (λ (z : ℤ). mark_of lag grain (queue_times k taken ++ z ∷ [])) (sym at) ∙ ap (mark_of lag grain) (sym (times_own k taken e))))
     (sym (closed_same k taken entry refl))
@@ -254,12 +254,12 @@ saw_steps old new lag grain ts told times step is saw =
     steps (mark_of lag grain times) (mark_of lag grain (times ++ ts ∷ [])) told (λ w. grows lag grain w times (ts ∷ []) step)
     (subst (λ (m : MarkerValue). IsRaised (mark_of m.lag m.grain times) (mark_of m.lag m.grain (times ++ ts ∷ [])) told) is (saw.tells times (ap (λ (m : MarkerValue). m.greatest) is)))
 
-old_is : (lag grain : ℤ) (markers : List MarkerValue) (queues : View) (taken : List Entry) (k : ℕ) (old : MarkerValue) → Knows lag grain markers queues taken → k < length markers → old ≡ slice_index_or markers k old → old ≡ record { lag = lag; grain = grain; greatest = reduce int_max (queue_times k taken) }
+old_is : (lag grain : ℤ) (markers : List MarkerValue) (queues : View) (taken : List CallEntry) (k : ℕ) (old : MarkerValue) → Knows lag grain markers queues taken → k < length markers → old ≡ slice_index_or markers k old → old ≡ record { lag = lag; grain = grain; greatest = reduce int_max (queue_times k taken) }
 old_is lag grain markers queues taken k old knows inside is =
     is ∙ get_or_from_slice_get markers k (record { lag = lag; grain = grain; greatest = reduce int_max (queue_times k taken) }) old (knows.markers_are k inside)
 
 -- the mark of the queue did not rise, and the queue was woken
-pub notes_stayed : (lag grain : ℤ) (markers : List MarkerValue) (queues queues' : View) (taken : List Entry) (k : ℕ) (e : EventValue) (ts : ℤ) (old new : MarkerValue) (told : Option ℤ) → e.ts ≡ ts → k < length markers → old ≡ slice_index_or markers k old → Saw old new ts None → Called queues queues' k (with_queue_idle false) told → Knows lag grain markers queues taken → Notes lag grain markers queues (slice_set markers k new) queues' taken (Given Stream k (item.Event e)) told
+pub notes_stayed : (lag grain : ℤ) (markers : List MarkerValue) (queues queues' : View) (taken : List CallEntry) (k : ℕ) (e : EventValue) (ts : ℤ) (old new : MarkerValue) (told : Option ℤ) → e.ts ≡ ts → k < length markers → old ≡ slice_index_or markers k old → Saw old new ts None → Called queues queues' k (with_queue_idle false) told → Knows lag grain markers queues taken → Notes lag grain markers queues (slice_set markers k new) queues' taken (Given Stream k (item.Event e)) told
 notes_stayed lag grain markers queues queues' taken k e ts old new told at inside is saw called knows =
     let times = queue_times k taken in
     let was = old_is lag grain markers queues taken k old knows inside is in
@@ -274,7 +274,7 @@ greater_is None t h = refl
 greater_is (Some s) t h = ap Some (grind (arith, ints, rules, h))
 
 -- the mark of the queue rose, and the coalescer was told
-pub notes_rose : (lag grain : ℤ) (markers : List MarkerValue) (queues queues' : View) (taken : List Entry) (k : ℕ) (e : EventValue) (ts : ℤ) (old new : MarkerValue) (m : ℤ) (told : Option ℤ) → e.ts ≡ ts → k < length markers → old ≡ slice_index_or markers k old → Saw old new ts (Some m) → Called queues queues' k (with_queue_mark m) told → Knows lag grain markers queues taken → Notes lag grain markers queues (slice_set markers k new) queues' taken (Given Stream k (item.Event e)) told
+pub notes_rose : (lag grain : ℤ) (markers : List MarkerValue) (queues queues' : View) (taken : List CallEntry) (k : ℕ) (e : EventValue) (ts : ℤ) (old new : MarkerValue) (m : ℤ) (told : Option ℤ) → e.ts ≡ ts → k < length markers → old ≡ slice_index_or markers k old → Saw old new ts (Some m) → Called queues queues' k (with_queue_mark m) told → Knows lag grain markers queues taken → Notes lag grain markers queues (slice_set markers k new) queues' taken (Given Stream k (item.Event e)) told
 notes_rose lag grain markers queues queues' taken k e ts old new m told at inside is saw called knows =
     let times = queue_times k taken in
     let was = old_is lag grain markers queues taken k old knows inside is in
@@ -286,9 +286,9 @@ notes_rose lag grain markers queues queues' taken k e ts old new m told at insid
 
 -- ---- an idle note
 
-pub notes_idle : (lag grain : ℤ) (markers : List MarkerValue) (queues queues' : View) (taken : List Entry) (k : ℕ) (told : Option ℤ) → k < length markers → Called queues queues' k (with_queue_idle true) told → Knows lag grain markers queues taken → Notes lag grain markers queues markers queues' taken (Given Stream k item.Idle) told
+pub notes_idle : (lag grain : ℤ) (markers : List MarkerValue) (queues queues' : View) (taken : List CallEntry) (k : ℕ) (told : Option ℤ) → k < length markers → Called queues queues' k (with_queue_idle true) told → Knows lag grain markers queues taken → Notes lag grain markers queues markers queues' taken (Given Stream k item.Idle) told
 notes_idle lag grain markers queues queues' taken k told inside called knows =
-    let entry : Entry = Given Stream k item.Idle in
+    let entry : CallEntry = Given Stream k item.Idle in
     let none : (q : ℕ) → event_from q entry ≡ [] = λ q. cond_nil (k == q) [] refl in
     notes_called lag grain markers markers queues queues' taken entry k (with_queue_idle true) told inside refl
     (λ q lt. knows.markers_are q lt ∙ ap (marker_at lag grain) (sym (times_same q taken entry (none q))))
@@ -332,9 +332,9 @@ end_step queues queues' now told true is low least answer = by (step queues.low 
     by (Rose t tells new rose) = let h = least t new rose in absurd (not_done h.queue.done h.queue.idle (none_then queues'.queues h.q h.queue is h.is) h.counted)
     by (Stayed tells new) = Stayed answer new
 
-pub notes_closed : (lag grain : ℤ) (markers : List MarkerValue) (queues queues' : View) (taken : List Entry) (k : ℕ) (told : Option ℤ) → k < length markers → Called queues queues' k with_queue_done told → Knows lag grain markers queues taken → Notes lag grain markers queues markers queues' taken (Closed Stream k) told
+pub notes_closed : (lag grain : ℤ) (markers : List MarkerValue) (queues queues' : View) (taken : List CallEntry) (k : ℕ) (told : Option ℤ) → k < length markers → Called queues queues' k with_queue_done told → Knows lag grain markers queues taken → Notes lag grain markers queues markers queues' taken (QueueClosed Stream k) told
 notes_closed lag grain markers queues queues' taken k told inside called knows =
-    let entry : Entry = Closed Stream k in
+    let entry : CallEntry = QueueClosed Stream k in
     let own : is_closed k (taken ++ entry ∷ []) ≡ true = closed_next k taken entry ∙ (ap (λ b. is_closed k taken || b) (same_queue k) ∙ or_true (is_closed k taken)) in
     notes_called lag grain markers markers queues queues' taken entry k with_queue_done told inside refl
     (λ q lt. knows.markers_are q lt ∙ ap (marker_at lag grain) (sym (times_same q taken entry refl)))
@@ -353,9 +353,9 @@ no_mark t h = cc
 
 -- where nothing was taken there was no least mark
 none_was : (n : ℕ) (lag grain : ℤ) (t : ℤ) → WasLeast n lag grain [] t → ⊥
-none_was n lag grain t was = no_mark t (sym (ap (λ (es : List Entry). queue_mark lag grain was.least.queue es) (empty was.front was.parts)) ∙ was.least.has)
+none_was n lag grain t was = no_mark t (sym (ap (λ (es : List CallEntry). queue_mark lag grain was.least.queue es) (empty was.front was.parts)) ∙ was.least.has)
   where
-    empty : (front : List Entry) → [] ≡ front ++ was.back → front ≡ []
+    empty : (front : List CallEntry) → [] ≡ front ++ was.back → front ≡ []
     empty [] h = refl
     empty (x ∷ front) h = cc
 

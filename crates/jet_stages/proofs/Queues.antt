@@ -8,7 +8,7 @@ use Rattle.jet_coalescer.specs.declared.queue.Queue.{Queue}
 use Rattle.jet_coalescer.specs.Low.{has_risen, risen}
 use Rattle.jet_coalescer.specs.Queues.{counts, greater, HoldsNoneBack, RisesToLeast, IsLeast}
 use Rattle.jet_coalescer.specs.View.{View}
-use Rattle.jet_boxes.specs.Entry.{Entry}
+use Rattle.jet_boxes.specs.Entry.{CallEntry}
 use Rattle.jet_stages.specs.Stamp.{is_closed, is_idle, IsLeastMark, WasLeast, IsLow}
 use Rattle.jet_stages.specs.Stamping.{Rises, LowIs, queue_known}
 use Rattle.jet_stages.proofs.Stamping.{least_is_one, low_is_one, was_before, was_now, was_either}
@@ -19,7 +19,7 @@ some_is {X} {x} {y} h = cc
 -- ---- the least mark of what a coalescer knows is that of what was taken
 
 -- what a coalescer knows of the queues is what was taken
-abbrev pub AreKnown : ℕ → ℤ → ℤ → View → List Entry → Type 0
+abbrev pub AreKnown : ℕ → ℤ → ℤ → View → List CallEntry → Type 0
 AreKnown n lag grain queues taken = (q : ℕ) → q < n → slice_get queues.queues q ≡ Some (queue_known lag grain q taken)
 
 counts_if : (done idle : Bool) → done ≡ false → idle ≡ false → not (done || idle) ≡ true
@@ -32,7 +32,7 @@ counted true idle h = cc
 counted false true h = cc
 counted false false h = (refl, refl)
 
-least_known : (n : ℕ) (lag grain : ℤ) (queues : View) (taken : List Entry) (t : ℤ) → length queues.queues ≡ n → AreKnown n lag grain queues taken → IsLeast queues.queues t → IsLeastMark n lag grain taken t
+least_known : (n : ℕ) (lag grain : ℤ) (queues : View) (taken : List CallEntry) (t : ℤ) → length queues.queues ≡ n → AreKnown n lag grain queues taken → IsLeast queues.queues t → IsLeastMark n lag grain taken t
 least_known n lag grain queues taken t count known h =
     let inside : h.q < n = subst (λ (m : ℕ). h.q < m) count (slice_get_within queues.queues h.q h.queue h.is) in
     let same : h.queue ≡ queue_known lag grain h.q taken = some_is (sym h.is ∙ known h.q inside) in
@@ -46,7 +46,7 @@ least_known n lag grain queues taken t count known h =
       has = subst (λ (p : Queue). p.mark ≡ Some t) same h.has;
     }
 
-low_holds : (n : ℕ) (lag grain : ℤ) (queues : View) (taken : List Entry) (s : ℤ) → length queues.queues ≡ n → AreKnown n lag grain queues taken → HoldsNoneBack queues → IsLeastMark n lag grain taken s → IsSomeAnd queues.low (λ t. s ≤ℤ t)
+low_holds : (n : ℕ) (lag grain : ℤ) (queues : View) (taken : List CallEntry) (s : ℤ) → length queues.queues ≡ n → AreKnown n lag grain queues taken → HoldsNoneBack queues → IsLeastMark n lag grain taken s → IsSomeAnd queues.low (λ t. s ≤ℤ t)
 low_holds n lag grain queues taken s count known holds h =
     holds s h.queue (queue_known lag grain h.queue taken)
     (λ k p is counts_p.
@@ -101,12 +101,12 @@ at_most : (s t : ℤ) → s ≡ t → s ≤ℤ t
 at_most s t h = omega (arith, ints, h)
 
 -- a watermark that rises is above each least mark before
-above_all : (n : ℕ) (lag grain : ℤ) (taken : List Entry) (old : Option ℤ) (t : ℤ) → LowIs n lag grain taken old → has_risen old t ≡ true → (s : ℤ) → WasLeast n lag grain taken s → s <ℤ t
+above_all : (n : ℕ) (lag grain : ℤ) (taken : List CallEntry) (old : Option ℤ) (t : ℤ) → LowIs n lag grain taken old → has_risen old t ≡ true → (s : ℤ) → WasLeast n lag grain taken s → s <ℤ t
 above_all n lag grain taken None t low rose s was = absurd (low s was)
 above_all n lag grain taken (Some l) t low rose s was = le_lt s l t (low.greatest s was) (lt_is l t rose)
 
 -- after one entry more the least mark is the watermark that rose
-rose_low : (n : ℕ) (lag grain : ℤ) (taken : List Entry) (entry : Entry) (t : ℤ) → IsLeastMark n lag grain (taken ++ entry ∷ []) t → ((s : ℤ) → WasLeast n lag grain taken s → s <ℤ t) → IsLow n lag grain (taken ++ entry ∷ []) t
+rose_low : (n : ℕ) (lag grain : ℤ) (taken : List CallEntry) (entry : CallEntry) (t : ℤ) → IsLeastMark n lag grain (taken ++ entry ∷ []) t → ((s : ℤ) → WasLeast n lag grain taken s → s <ℤ t) → IsLow n lag grain (taken ++ entry ∷ []) t
 rose_low n lag grain taken entry t least above =
     record { was = was_now n lag grain (taken ++ entry ∷ []) t least; greatest = λ s was. by s (was_either n lag grain taken entry s was) }
   where
@@ -115,10 +115,10 @@ rose_low n lag grain taken entry t least above =
     by s (inr was) = lt_le s t (above s was)
 
 -- the least mark of now is not above the watermark, which stayed
-abbrev Holds : ℕ → ℤ → ℤ → List Entry → Option ℤ → Type 0
+abbrev Holds : ℕ → ℤ → ℤ → List CallEntry → Option ℤ → Type 0
 Holds n lag grain after low = (s : ℤ) → IsLeastMark n lag grain after s → IsSomeAnd low (λ t. s ≤ℤ t)
 
-stayed_low : (n : ℕ) (lag grain : ℤ) (taken : List Entry) (entry : Entry) (low : Option ℤ) → LowIs n lag grain taken low → Holds n lag grain (taken ++ entry ∷ []) low → LowIs n lag grain (taken ++ entry ∷ []) low
+stayed_low : (n : ℕ) (lag grain : ℤ) (taken : List CallEntry) (entry : CallEntry) (low : Option ℤ) → LowIs n lag grain taken low → Holds n lag grain (taken ++ entry ∷ []) low → LowIs n lag grain (taken ++ entry ∷ []) low
 stayed_low n lag grain taken entry None none holds = λ t was. by t (was_either n lag grain taken entry t was)
   where
     by : (t : ℤ) → IsLeastMark n lag grain (taken ++ entry ∷ []) t ⊎ WasLeast n lag grain taken t → ⊥
@@ -131,35 +131,35 @@ stayed_low n lag grain taken entry (Some l) low holds =
     by s (inl now) = holds s now
     by s (inr was) = low.greatest s was
 
-back_to : (n : ℕ) (lag grain : ℤ) (taken after : List Entry) (low : Option ℤ) → LowIs n lag grain taken low → LowIs n lag grain after low → (t : ℤ) → IsLow n lag grain after t → IsLow n lag grain taken t
+back_to : (n : ℕ) (lag grain : ℤ) (taken after : List CallEntry) (low : Option ℤ) → LowIs n lag grain taken low → LowIs n lag grain after low → (t : ℤ) → IsLow n lag grain after t → IsLow n lag grain taken t
 back_to n lag grain taken after None was now t low = absurd (now t low.was)
 back_to n lag grain taken after (Some l) was now t low = subst (IsLow n lag grain taken) (low_is_one n lag grain l t after now low) was
 
 -- what the watermark is after one entry more, and what was told of it
-pub record GoesOn (n : ℕ) (lag grain : ℤ) (taken : List Entry) (entry : Entry) (low told : Option ℤ) : Type 0 where
+pub record NextLow (n : ℕ) (lag grain : ℤ) (taken : List CallEntry) (entry : CallEntry) (low told : Option ℤ) : Type 0 where
   pub low_is : LowIs n lag grain (taken ++ entry ∷ []) low
   pub rises : Rises n lag grain taken (taken ++ entry ∷ []) told
 
-stays : (n : ℕ) (lag grain : ℤ) (taken : List Entry) (entry : Entry) (low : Option ℤ) → LowIs n lag grain taken low → Holds n lag grain (taken ++ entry ∷ []) low → GoesOn n lag grain taken entry low None
+stays : (n : ℕ) (lag grain : ℤ) (taken : List CallEntry) (entry : CallEntry) (low : Option ℤ) → LowIs n lag grain taken low → Holds n lag grain (taken ++ entry ∷ []) low → NextLow n lag grain taken entry low None
 stays n lag grain taken entry low was holds =
     let now = stayed_low n lag grain taken entry low was holds in
     record { low_is = now; rises = record { rose = tt; stayed = back_to n lag grain taken (taken ++ entry ∷ []) low was now } }
 
-rises_to : (n : ℕ) (lag grain : ℤ) (taken : List Entry) (entry : Entry) (old : Option ℤ) (t : ℤ) → LowIs n lag grain taken old → has_risen old t ≡ true → IsLeastMark n lag grain (taken ++ entry ∷ []) t → GoesOn n lag grain taken entry (Some t) (Some t)
+rises_to : (n : ℕ) (lag grain : ℤ) (taken : List CallEntry) (entry : CallEntry) (old : Option ℤ) (t : ℤ) → LowIs n lag grain taken old → has_risen old t ≡ true → IsLeastMark n lag grain (taken ++ entry ∷ []) t → NextLow n lag grain taken entry (Some t) (Some t)
 rises_to n lag grain taken entry old t was rose least =
     let above = above_all n lag grain taken old t was rose in
     record { low_is = rose_low n lag grain taken entry t least above; rises = record { rose = (least, above); stayed = tt } }
 
-pub goes_on : (n : ℕ) (lag grain : ℤ) (taken : List Entry) (entry : Entry) (queues queues' : View) (told : Option ℤ) → LowIs n lag grain taken queues.low → length queues'.queues ≡ n → AreKnown n lag grain queues' (taken ++ entry ∷ []) → HoldsNoneBack queues' → RisesToLeast queues.low queues' → Step queues.low queues'.low told → GoesOn n lag grain taken entry queues'.low told
+pub goes_on : (n : ℕ) (lag grain : ℤ) (taken : List CallEntry) (entry : CallEntry) (queues queues' : View) (told : Option ℤ) → LowIs n lag grain taken queues.low → length queues'.queues ≡ n → AreKnown n lag grain queues' (taken ++ entry ∷ []) → HoldsNoneBack queues' → RisesToLeast queues.low queues' → Step queues.low queues'.low told → NextLow n lag grain taken entry queues'.low told
 goes_on n lag grain taken entry queues queues' told was count known holds least (Rose t tells now rose) =
-    subst (λ (o : Option ℤ). GoesOn n lag grain taken entry o told) (sym now)
-    (subst (λ (o : Option ℤ). GoesOn n lag grain taken entry (Some t) o) (sym tells)
+    subst (λ (o : Option ℤ). NextLow n lag grain taken entry o told) (sym now)
+    (subst (λ (o : Option ℤ). NextLow n lag grain taken entry (Some t) o) (sym tells)
     (rises_to n lag grain taken entry queues.low t was rose (least_known n lag grain queues' (taken ++ entry ∷ []) t count known (least t now rose))))
 goes_on n lag grain taken entry queues queues' told was count known holds least (Stayed tells now) =
-    subst (λ (o : Option ℤ). GoesOn n lag grain taken entry queues'.low o) (sym tells)
+    subst (λ (o : Option ℤ). NextLow n lag grain taken entry queues'.low o) (sym tells)
     (stays n lag grain taken entry queues'.low (subst (LowIs n lag grain taken) (sym now) was) (λ s h. low_holds n lag grain queues' (taken ++ entry ∷ []) s count known holds h))
 
 -- nothing was told to the coalescer
-pub still : (n : ℕ) (lag grain : ℤ) (taken : List Entry) (entry : Entry) (queues : View) → LowIs n lag grain taken queues.low → length queues.queues ≡ n → AreKnown n lag grain queues (taken ++ entry ∷ []) → HoldsNoneBack queues → GoesOn n lag grain taken entry queues.low None
+pub still : (n : ℕ) (lag grain : ℤ) (taken : List CallEntry) (entry : CallEntry) (queues : View) → LowIs n lag grain taken queues.low → length queues.queues ≡ n → AreKnown n lag grain queues (taken ++ entry ∷ []) → HoldsNoneBack queues → NextLow n lag grain taken entry queues.low None
 still n lag grain taken entry queues was count known holds =
     stays n lag grain taken entry queues.low was (λ s h. low_holds n lag grain queues (taken ++ entry ∷ []) s count known holds h)

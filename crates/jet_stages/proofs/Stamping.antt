@@ -17,7 +17,7 @@ use Rattle.jet_items.specs.Kinds.{as_mark, as_data, marks_of, data_of}
 use Rattle.jet_items.specs.Marks.{is_behind, is_under, idle_before}
 use Rattle.jet_items.proofs.Orders.{Each-append, Each-front, Each-back, Each-more, EachPair-append, EachPair-across}
 use Rattle.jet_boxes.specs.declared.port.Port.TheVariants.{Stream, Build}
-use Rattle.jet_boxes.specs.Entry.{Entry, Given, Told, Closed, Finish, IsData, items_of}
+use Rattle.jet_boxes.specs.Entry.{CallEntry, Given, MarkTold, QueueClosed, Finish, IsData, items_of}
 use Rattle.jet_stages.specs.Stamp.{event_from, queue_events, queue_times, closes, is_closed, is_idle, idle_in, idle_from, unless_idle, queue_mark, IsLeastMark, WasLeast, IsLow, IsPlaced, StampMarks, StampBag, StandsIn, IsNotLate, FromFiles, IsNoResult, HasNoResults}
 use Rattle.jet_stages.specs.StampLaws.{items_next, events_next, data_next, data_marks, files_before, results_before}
 use Rattle.jet_stages.specs.Stamping.{Rises, IsPast, Stamped, passed, mark_items}
@@ -25,20 +25,20 @@ use Rattle.jet_stages.specs.Placing.{Half, First, Second, half, tail_is, nowhere
 use Rattle.jet_stages.proofs.Marking.{Reaches, stands_behind, stands_under}
 
 -- what every call's condition gives of its entry
-abbrev pub Comes : ℕ → List Entry → Entry → Type 0
+abbrev pub Comes : ℕ → List CallEntry → CallEntry → Type 0
 Comes n taken (Given Stream queue x) = (queue < n) × IsData x × (is_closed queue taken ≡ false)
 Comes n taken (Given Build queue x) = ⊥
-Comes n taken (Told t) = Unit {0}
-Comes n taken (Closed Stream queue) = (queue < n) × (is_closed queue taken ≡ false)
-Comes n taken (Closed Build queue) = ⊥
+Comes n taken (MarkTold t) = Unit {0}
+Comes n taken (QueueClosed Stream queue) = (queue < n) × (is_closed queue taken ≡ false)
+Comes n taken (QueueClosed Build queue) = ⊥
 Comes n taken Finish = Unit {0}
 
 -- ---- the queues after one entry more
 
-pub times_next : (q : ℕ) (taken : List Entry) (entry : Entry) → queue_times q (taken ++ entry ∷ []) ≡ queue_times q taken ++ map (λ e. e.ts) (event_from q entry)
+pub times_next : (q : ℕ) (taken : List CallEntry) (entry : CallEntry) → queue_times q (taken ++ entry ∷ []) ≡ queue_times q taken ++ map (λ e. e.ts) (event_from q entry)
 times_next q taken entry = ap (map (λ (e : EventValue). e.ts)) (events_next q taken entry) ∙ map-append (λ (e : EventValue). e.ts) (queue_events q taken) (event_from q entry)
 
-pub closed_next : (q : ℕ) (taken : List Entry) (entry : Entry) → is_closed q (taken ++ entry ∷ []) ≡ (is_closed q taken || closes q entry)
+pub closed_next : (q : ℕ) (taken : List CallEntry) (entry : CallEntry) → is_closed q (taken ++ entry ∷ []) ≡ (is_closed q taken || closes q entry)
 closed_next q taken entry = list_any-append (closes q) taken (entry ∷ []) ∙ ap (λ b. is_closed q taken || b) (or_false (closes q entry))
   where
     or_false : (b : Bool) → (b || false) ≡ b
@@ -50,7 +50,7 @@ neither true b h = cc
 neither false b h = refl
 
 -- a queue that is open after an entry was open before it
-pub was_open : (q : ℕ) (taken : List Entry) (entry : Entry) → is_closed q (taken ++ entry ∷ []) ≡ false → is_closed q taken ≡ false
+pub was_open : (q : ℕ) (taken : List CallEntry) (entry : CallEntry) → is_closed q (taken ++ entry ∷ []) ≡ false → is_closed q taken ≡ false
 was_open q taken entry h = neither (is_closed q taken) (closes q entry) (sym (closed_next q taken entry) ∙ h)
 
 or_none : (b : Bool) → (b || false) ≡ b
@@ -58,20 +58,20 @@ or_none true = refl
 or_none false = refl
 
 -- the same of a front
-open_front : (q : ℕ) (front back : List Entry) → is_closed q (front ++ back) ≡ false → is_closed q front ≡ false
+open_front : (q : ℕ) (front back : List CallEntry) → is_closed q (front ++ back) ≡ false → is_closed q front ≡ false
 open_front q front back h = neither (is_closed q front) (is_closed q back) (sym (list_any-append (closes q) front back) ∙ h)
 
-pub idle_next : (q : ℕ) (taken : List Entry) (entry : Entry) → is_idle q (taken ++ entry ∷ []) ≡ last_said (flat_map (idle_from q) taken ++ idle_from q entry)
+pub idle_next : (q : ℕ) (taken : List CallEntry) (entry : CallEntry) → is_idle q (taken ++ entry ∷ []) ≡ last_said (flat_map (idle_from q) taken ++ idle_from q entry)
 idle_next q taken entry = ap last_said (flat_map-append (idle_from q) taken (entry ∷ []) ∙ ap (λ bs. flat_map (idle_from q) taken ++ bs) (append-nil (idle_from q entry)))
 
 -- ---- a queue that is idle had an idle note
 
-record HasIdle (q : ℕ) (taken : List Entry) : Type 0 where
-  front : List Entry
-  back : List Entry
+record HasIdle (q : ℕ) (taken : List CallEntry) : Type 0 where
+  front : List CallEntry
+  back : List CallEntry
   parts : taken ≡ front ++ Given Stream q item.Idle ∷ back
 
-data Says (q : ℕ) (entry : Entry) : Type 0 where
+data Says (q : ℕ) (entry : CallEntry) : Type 0 where
   Nothing : idle_from q entry ≡ [] → Says q entry
   Awake : idle_from q entry ≡ false ∷ [] → Says q entry
   Idles : idle_from q entry ≡ true ∷ [] → entry ≡ Given Stream q item.Idle → Says q entry
@@ -87,20 +87,20 @@ says_item q k item.Idle true is = Idles (ap (λ c. cond c (true ∷ []) []) is) 
 says_item q k (item.Mark m) true is = Nothing (ap (λ c. cond c [] []) is)
 says_item q k item.Done true is = Nothing (ap (λ c. cond c [] []) is)
 
-says : (q : ℕ) (entry : Entry) → Says q entry
+says : (q : ℕ) (entry : CallEntry) → Says q entry
 says q (Given Stream k x) = says_item q k x (k == q) refl
 says q (Given Build k x) = Nothing refl
-says q (Told t) = Nothing refl
-says q (Closed port k) = Nothing refl
+says q (MarkTold t) = Nothing refl
+says q (QueueClosed port k) = Nothing refl
 says q Finish = Nothing refl
 
-there_later : (q : ℕ) (entry : Entry) (taken : List Entry) → HasIdle q taken → HasIdle q (entry ∷ taken)
+there_later : (q : ℕ) (entry : CallEntry) (taken : List CallEntry) → HasIdle q taken → HasIdle q (entry ∷ taken)
 there_later q entry taken h = record { front = entry ∷ h.front; back = h.back; parts = ap (λ es. entry ∷ es) h.parts }
 
-abbrev LastWord : Bool → ℕ → List Entry → Bool
+abbrev LastWord : Bool → ℕ → List CallEntry → Bool
 LastWord b q taken = fold (λ before now. now) b (flat_map (idle_from q) taken)
 
-there_from : (q : ℕ) (taken : List Entry) (b : Bool) → LastWord b q taken ≡ true → (b ≡ true) ⊎ HasIdle q taken
+there_from : (q : ℕ) (taken : List CallEntry) (b : Bool) → LastWord b q taken ≡ true → (b ≡ true) ⊎ HasIdle q taken
 there_from q [] b h = inl h
 there_from q (entry ∷ taken) b h = by (says q entry) (λ c k. there_from q taken c k)
   where
@@ -120,7 +120,7 @@ there_from q (entry ∷ taken) b h = by (says q entry) (λ c k. there_from q tak
     by (Awake is) rest = woken (rest false (after (false ∷ []) is))
     by (Idles is what) rest = inr (record { front = []; back = taken; parts = ap (λ e. e ∷ taken) what })
 
-idle_there : (q : ℕ) (taken : List Entry) → is_idle q taken ≡ true → HasIdle q taken
+idle_there : (q : ℕ) (taken : List CallEntry) → is_idle q taken ≡ true → HasIdle q taken
 idle_there q taken h = some (there_from q taken false h)
   where
     some : (false ≡ true) ⊎ HasIdle q taken → HasIdle q taken
@@ -135,38 +135,38 @@ at_least t s mark is h = subst (Reaches t) is h
 pub both_ways : (s t : ℤ) → s ≤ℤ t → t ≤ℤ s → s ≡ t
 both_ways s t h k = omega (arith, ints, h, k)
 
-pub least_is_one : (n : ℕ) (lag grain s t : ℤ) (taken : List Entry) → IsLeastMark n lag grain taken s → IsLeastMark n lag grain taken t → s ≡ t
+pub least_is_one : (n : ℕ) (lag grain s t : ℤ) (taken : List CallEntry) → IsLeastMark n lag grain taken s → IsLeastMark n lag grain taken t → s ≡ t
 least_is_one n lag grain s t taken h k =
     both_ways s t (at_least s t (queue_mark lag grain k.queue taken) k.has (h.reached k.queue k.exists k.going k.awake)) (at_least t s (queue_mark lag grain h.queue taken) h.has (k.reached h.queue h.exists h.going h.awake))
 
-pub low_is_one : (n : ℕ) (lag grain s t : ℤ) (taken : List Entry) → IsLow n lag grain taken s → IsLow n lag grain taken t → s ≡ t
+pub low_is_one : (n : ℕ) (lag grain s t : ℤ) (taken : List CallEntry) → IsLow n lag grain taken s → IsLow n lag grain taken t → s ≡ t
 low_is_one n lag grain s t taken h k = both_ways s t (k.greatest s h.was) (h.greatest t k.was)
 
 -- ---- fronts
 
-pub was_before : (n : ℕ) (lag grain : ℤ) (taken : List Entry) (entry : Entry) (t : ℤ) → WasLeast n lag grain taken t → WasLeast n lag grain (taken ++ entry ∷ []) t
+pub was_before : (n : ℕ) (lag grain : ℤ) (taken : List CallEntry) (entry : CallEntry) (t : ℤ) → WasLeast n lag grain taken t → WasLeast n lag grain (taken ++ entry ∷ []) t
 was_before n lag grain taken entry t h =
     record { front = h.front; back = h.back ++ entry ∷ []; parts = ap (λ es. es ++ entry ∷ []) h.parts ∙ append_assoc h.front h.back (entry ∷ []); least = h.least }
 
-pub was_now : (n : ℕ) (lag grain : ℤ) (taken : List Entry) (t : ℤ) → IsLeastMark n lag grain taken t → WasLeast n lag grain taken t
+pub was_now : (n : ℕ) (lag grain : ℤ) (taken : List CallEntry) (t : ℤ) → IsLeastMark n lag grain taken t → WasLeast n lag grain taken t
 was_now n lag grain taken t h = record { front = taken; back = []; parts = sym (append-nil taken); least = h }
 
 -- a front of one entry more is the whole or a front of what was before
-data FrontOf (taken : List Entry) (entry : Entry) (front : List Entry) : Type 0 where
+data FrontOf (taken : List CallEntry) (entry : CallEntry) (front : List CallEntry) : Type 0 where
   Whole : front ≡ taken ++ entry ∷ [] → FrontOf taken entry front
-  Less : (rest : List Entry) → taken ≡ front ++ rest → FrontOf taken entry front
+  Less : (rest : List CallEntry) → taken ≡ front ++ rest → FrontOf taken entry front
 
-entries_tail : (x y : Entry) (xs ys : List Entry) → x ∷ xs ≡ y ∷ ys → xs ≡ ys
+entries_tail : (x y : CallEntry) (xs ys : List CallEntry) → x ∷ xs ≡ y ∷ ys → xs ≡ ys
 entries_tail x y xs ys h = cc
 
-entries_head : (x y : Entry) (xs ys : List Entry) → x ∷ xs ≡ y ∷ ys → x ≡ y
+entries_head : (x y : CallEntry) (xs ys : List CallEntry) → x ∷ xs ≡ y ∷ ys → x ≡ y
 entries_head x y xs ys h = cc
 
-front_of : (taken : List Entry) (entry : Entry) (front back : List Entry) → taken ++ entry ∷ [] ≡ front ++ back → FrontOf taken entry front
+front_of : (taken : List CallEntry) (entry : CallEntry) (front back : List CallEntry) → taken ++ entry ∷ [] ≡ front ++ back → FrontOf taken entry front
 front_of taken entry [] back is = Less taken refl
 front_of [] entry (y ∷ front) back is = Whole (ap (λ x. x ∷ front) (sym (entries_head entry y [] (front ++ back) is)) ∙ ap (λ xs. entry ∷ xs) (none front (entries_tail entry y [] (front ++ back) is)))
   where
-    none : (xs : List Entry) → [] ≡ xs ++ back → xs ≡ []
+    none : (xs : List CallEntry) → [] ≡ xs ++ back → xs ≡ []
     none [] h = refl
     none (x ∷ xs) h = cc
 front_of (z ∷ taken) entry (y ∷ front) back is = further (front_of taken entry front back (entries_tail z y (taken ++ entry ∷ []) (front ++ back) is))
@@ -179,36 +179,36 @@ front_of (z ∷ taken) entry (y ∷ front) back is = further (front_of taken ent
     further (Less rest e) = Less rest (ap (λ xs. z ∷ xs) e ∙ ap (λ x. x ∷ front ++ rest) same)
 
 -- a front that is followed by an entry is one of what was before
-proper_of : (taken : List Entry) (entry : Entry) (earlier : List Entry) (y : Entry) (later : List Entry) → taken ++ entry ∷ [] ≡ earlier ++ y ∷ later → (rest : List Entry) × (taken ≡ earlier ++ rest)
+proper_of : (taken : List CallEntry) (entry : CallEntry) (earlier : List CallEntry) (y : CallEntry) (later : List CallEntry) → taken ++ entry ∷ [] ≡ earlier ++ y ∷ later → (rest : List CallEntry) × (taken ≡ earlier ++ rest)
 proper_of taken entry [] y later is = (taken, refl)
 proper_of [] entry (z ∷ earlier) y later is = absurd (none earlier (entries_tail entry z [] (earlier ++ y ∷ later) is))
   where
-    none : (xs : List Entry) → [] ≡ xs ++ y ∷ later → ⊥
+    none : (xs : List CallEntry) → [] ≡ xs ++ y ∷ later → ⊥
     none [] h = cc
     none (x ∷ xs) h = cc
 proper_of (w ∷ taken) entry (z ∷ earlier) y later is =
     let rest = proper_of taken entry earlier y later (entries_tail w z (taken ++ entry ∷ []) (earlier ++ y ∷ later) is) in
     (rest.0, ap (λ xs. w ∷ xs) rest.1 ∙ ap (λ x. x ∷ earlier ++ rest.0) (entries_head w z (taken ++ entry ∷ []) (earlier ++ y ∷ later) is))
 
-was_of_front : (n : ℕ) (lag grain : ℤ) (taken front rest : List Entry) (t : ℤ) → taken ≡ front ++ rest → WasLeast n lag grain front t → WasLeast n lag grain taken t
+was_of_front : (n : ℕ) (lag grain : ℤ) (taken front rest : List CallEntry) (t : ℤ) → taken ≡ front ++ rest → WasLeast n lag grain front t → WasLeast n lag grain taken t
 was_of_front n lag grain taken front rest t is h =
     record { front = h.front; back = h.back ++ rest; parts = is ∙ (ap (λ es. es ++ rest) h.parts ∙ append_assoc h.front h.back rest); least = h.least }
 
 -- a least mark of one entry more is that of the whole, or was one before
-pub was_either : (n : ℕ) (lag grain : ℤ) (taken : List Entry) (entry : Entry) (t : ℤ) → WasLeast n lag grain (taken ++ entry ∷ []) t → IsLeastMark n lag grain (taken ++ entry ∷ []) t ⊎ WasLeast n lag grain taken t
+pub was_either : (n : ℕ) (lag grain : ℤ) (taken : List CallEntry) (entry : CallEntry) (t : ℤ) → WasLeast n lag grain (taken ++ entry ∷ []) t → IsLeastMark n lag grain (taken ++ entry ∷ []) t ⊎ WasLeast n lag grain taken t
 was_either n lag grain taken entry t h = by (front_of taken entry h.front h.back h.parts)
   where
     by : FrontOf taken entry h.front → IsLeastMark n lag grain (taken ++ entry ∷ []) t ⊎ WasLeast n lag grain taken t
-    by (Whole e) = inl (subst (λ (es : List Entry). IsLeastMark n lag grain es t) e h.least)
+    by (Whole e) = inl (subst (λ (es : List CallEntry). IsLeastMark n lag grain es t) e h.least)
     by (Less rest e) = inr (record { front = h.front; back = rest; parts = e; least = h.least })
 
 -- ---- what was given
 
-pub passed_marks : (n : ℕ) (taken : List Entry) (entry : Entry) → Comes n taken entry → marks_of (passed entry) ≡ []
+pub passed_marks : (n : ℕ) (taken : List CallEntry) (entry : CallEntry) → Comes n taken entry → marks_of (passed entry) ≡ []
 passed_marks n taken (Given Stream queue x) h = data_marks x h.1
 passed_marks n taken (Given Build queue x) h = absurd h
-passed_marks n taken (Told t) h = refl
-passed_marks n taken (Closed port queue) h = refl
+passed_marks n taken (MarkTold t) h = refl
+passed_marks n taken (QueueClosed port queue) h = refl
 passed_marks n taken Finish h = refl
 
 abbrev mark_list : Option ℤ → List ℤ
@@ -219,13 +219,13 @@ marks_list : (told : Option ℤ) → marks_of (mark_items told) ≡ mark_list to
 marks_list None = refl
 marks_list (Some t) = refl
 
-pub marks_next : (n : ℕ) (taken : List Entry) (entry : Entry) (given : List Item) (told : Option ℤ) → Comes n taken entry → marks_of ((given ++ passed entry) ++ mark_items told) ≡ marks_of given ++ mark_list told
+pub marks_next : (n : ℕ) (taken : List CallEntry) (entry : CallEntry) (given : List Item) (told : Option ℤ) → Comes n taken entry → marks_of ((given ++ passed entry) ++ mark_items told) ≡ marks_of given ++ mark_list told
 marks_next n taken entry given told h =
     flat_map-append as_mark (given ++ passed entry) (mark_items told)
     ∙ (ap (λ ts. ts ++ marks_of (mark_items told)) (flat_map-append as_mark given (passed entry) ∙ (ap (λ ts. marks_of given ++ ts) (passed_marks n taken entry h) ∙ append-nil (marks_of given)))
     ∙ ap (λ ts. marks_of given ++ ts) (marks_list told))
 
-pub bag_next : (taken : List Entry) (entry : Entry) (given : List Item) (told : Option ℤ) → StampBag taken given → StampBag (taken ++ entry ∷ []) ((given ++ passed entry) ++ mark_items told)
+pub bag_next : (taken : List CallEntry) (entry : CallEntry) (given : List Item) (told : Option ℤ) → StampBag taken given → StampBag (taken ++ entry ∷ []) ((given ++ passed entry) ++ mark_items told)
 bag_next taken entry given told h =
     flat_map-append as_data (given ++ passed entry) (mark_items told)
     ∙ (ap (λ xs. data_of (given ++ passed entry) ++ xs) (no_data told)
@@ -235,7 +235,7 @@ bag_next taken entry given told h =
     no_data None = refl
     no_data (Some t) = refl
 
-placed_before : (n : ℕ) (lag grain : ℤ) (taken : List Entry) (entry : Entry) (before : List Item) (t : ℤ) → IsPlaced n lag grain taken before t → IsPlaced n lag grain (taken ++ entry ∷ []) before t
+placed_before : (n : ℕ) (lag grain : ℤ) (taken : List CallEntry) (entry : CallEntry) (before : List Item) (t : ℤ) → IsPlaced n lag grain taken before t → IsPlaced n lag grain (taken ++ entry ∷ []) before t
 placed_before n lag grain taken entry before t h =
     record {
       front = h.front;
@@ -253,14 +253,14 @@ less_not : (a b : ℤ) → a <ℤ b → b ≤ℤ a → ⊥
 less_not a b h k = omega (arith, ints, h, k)
 
 -- a watermark that rose is the least mark of now
-risen_low : (n : ℕ) (lag grain : ℤ) (taken : List Entry) (entry : Entry) (s t : ℤ) → Rises n lag grain taken (taken ++ entry ∷ []) (Some s) → IsLow n lag grain (taken ++ entry ∷ []) t → s ≡ t
+risen_low : (n : ℕ) (lag grain : ℤ) (taken : List CallEntry) (entry : CallEntry) (s t : ℤ) → Rises n lag grain taken (taken ++ entry ∷ []) (Some s) → IsLow n lag grain (taken ++ entry ∷ []) t → s ≡ t
 risen_low n lag grain taken entry s t r low = same (was_either n lag grain taken entry t low.was)
   where
     same : IsLeastMark n lag grain (taken ++ entry ∷ []) t ⊎ WasLeast n lag grain taken t → s ≡ t
     same (inl now) = least_is_one n lag grain s t (taken ++ entry ∷ []) r.rose.0 now
     same (inr was) = absurd (less_not t s (r.rose.1 t was) (low.greatest s (was_now n lag grain (taken ++ entry ∷ []) s r.rose.0)))
 
-marks_go_on : (n : ℕ) (lag grain : ℤ) (taken : List Entry) (entry : Entry) (given : List Item) (told : Option ℤ) → Comes n taken entry → Rises n lag grain taken (taken ++ entry ∷ []) told → StampBag taken given → StampMarks n lag grain taken given → StampMarks n lag grain (taken ++ entry ∷ []) ((given ++ passed entry) ++ mark_items told)
+marks_go_on : (n : ℕ) (lag grain : ℤ) (taken : List CallEntry) (entry : CallEntry) (given : List Item) (told : Option ℤ) → Comes n taken entry → Rises n lag grain taken (taken ++ entry ∷ []) told → StampBag taken given → StampMarks n lag grain taken given → StampMarks n lag grain (taken ++ entry ∷ []) ((given ++ passed entry) ++ mark_items told)
 marks_go_on n lag grain taken entry given told comes rises bag h =
     record {
       placed = λ before after t at. new told rises before after t (half (given ++ passed entry) (mark_items told) before after t at);
@@ -293,7 +293,7 @@ marks_go_on n lag grain taken entry given told comes rises bag h =
 
 -- ---- the order
 
-past_next : (n : ℕ) (lag grain : ℤ) (taken : List Entry) (entry : Entry) → pos 1 ≤ℤ grain → (x : Item) → IsPast n lag grain taken x → IsPast n lag grain (taken ++ entry ∷ []) x
+past_next : (n : ℕ) (lag grain : ℤ) (taken : List CallEntry) (entry : CallEntry) → pos 1 ≤ℤ grain → (x : Item) → IsPast n lag grain taken x → IsPast n lag grain (taken ++ entry ∷ []) x
 past_next n lag grain taken entry step (item.Event e) h = tt
 past_next n lag grain taken entry step (item.Side s) h = tt
 past_next n lag grain taken entry step (item.Frame f) h = tt
@@ -303,7 +303,7 @@ past_next n lag grain taken entry step item.Idle h = tt
 past_next n lag grain taken entry step (item.Mark w) h = was_before n lag grain taken entry w h
 past_next n lag grain taken entry step item.Done h = h
 
-data_past : (n : ℕ) (lag grain : ℤ) (taken : List Entry) (x : Item) → IsData x → Each (IsPast n lag grain taken) (unless_idle x)
+data_past : (n : ℕ) (lag grain : ℤ) (taken : List CallEntry) (x : Item) → IsData x → Each (IsPast n lag grain taken) (unless_idle x)
 data_past n lag grain taken (item.Event e) h = (tt, tt)
 data_past n lag grain taken (item.Side s) h = (tt, tt)
 data_past n lag grain taken (item.Frame f) h = (tt, tt)
@@ -313,14 +313,14 @@ data_past n lag grain taken item.Idle h = tt
 data_past n lag grain taken (item.Mark m) h = absurd h
 data_past n lag grain taken item.Done h = absurd h
 
-passed_past : (n : ℕ) (lag grain : ℤ) (before taken : List Entry) (entry : Entry) → Comes n before entry → Each (IsPast n lag grain taken) (passed entry)
+passed_past : (n : ℕ) (lag grain : ℤ) (before taken : List CallEntry) (entry : CallEntry) → Comes n before entry → Each (IsPast n lag grain taken) (passed entry)
 passed_past n lag grain before taken (Given Stream queue x) h = data_past n lag grain taken x h.1
 passed_past n lag grain before taken (Given Build queue x) h = absurd h
-passed_past n lag grain before taken (Told t) h = tt
-passed_past n lag grain before taken (Closed port queue) h = tt
+passed_past n lag grain before taken (MarkTold t) h = tt
+passed_past n lag grain before taken (QueueClosed port queue) h = tt
 passed_past n lag grain before taken Finish h = tt
 
-marks_past : (n : ℕ) (lag grain : ℤ) (before after : List Entry) (told : Option ℤ) → Rises n lag grain before after told → Each (IsPast n lag grain after) (mark_items told)
+marks_past : (n : ℕ) (lag grain : ℤ) (before after : List CallEntry) (told : Option ℤ) → Rises n lag grain before after told → Each (IsPast n lag grain after) (mark_items told)
 marks_past n lag grain before after None r = tt
 marks_past n lag grain before after (Some t) r = (was_now n lag grain after t r.rose.0, tt)
 
@@ -350,10 +350,10 @@ sound_marks behind xs (Some t) s =
     }
 
 -- an item of an open queue, after what was given before it
-abbrev Below : (ℕ → ℕ → Bool) → ℕ → ℤ → ℤ → List Entry → Item → Type 0
+abbrev Below : (ℕ → ℕ → Bool) → ℕ → ℤ → ℤ → List CallEntry → Item → Type 0
 Below behind n lag grain taken x = (w : ℤ) → WasLeast n lag grain taken w → SoundBelow behind w x
 
-sound_past : (behind : ℕ → ℕ → Bool) (n : ℕ) (lag grain : ℤ) (taken : List Entry) (x : Item) → Below behind n lag grain taken x → (y : Item) → IsPast n lag grain taken y → SoundAfter behind y x
+sound_past : (behind : ℕ → ℕ → Bool) (n : ℕ) (lag grain : ℤ) (taken : List CallEntry) (x : Item) → Below behind n lag grain taken x → (y : Item) → IsPast n lag grain taken y → SoundAfter behind y x
 sound_past behind n lag grain taken x below (item.Event e) h = tt
 sound_past behind n lag grain taken x below (item.Side s) h = tt
 sound_past behind n lag grain taken x below (item.Frame f) h = tt
@@ -376,7 +376,7 @@ late_not behind item.Done h = tt
 pub same_queue : (q : ℕ) → (q == q) ≡ true
 same_queue q = grind arith
 
-own_event : (q : ℕ) (taken : List Entry) (e : EventValue) → queue_events q (taken ++ Given Stream q (item.Event e) ∷ []) ≡ queue_events q taken ++ e ∷ []
+own_event : (q : ℕ) (taken : List CallEntry) (e : EventValue) → queue_events q (taken ++ Given Stream q (item.Event e) ∷ []) ≡ queue_events q taken ++ e ∷ []
 own_event q taken e = events_next q taken (Given Stream q (item.Event e)) ∙ ap (λ (b : Bool). queue_events q taken ++ cond b (e ∷ []) []) (same_queue q)
 
 last_each : (P : EventValue → Type 0) (es : List EventValue) (e : EventValue) → Each P (es ++ e ∷ []) → P e
@@ -389,12 +389,12 @@ before_last : (e : EventValue) (es : List EventValue) → Each (λ d. Each (λ x
 before_last e es h = Each-more (λ d. Each (λ x. d.line < x.line) (e ∷ [])) (λ d. d.line < e.line) (λ d k. k.0) es h
 
 -- where an event of an open queue stands
-record Stands (files : List EventValue) (taken : List Entry) (q : ℕ) (e : EventValue) : Type 0 where
+record Stands (files : List EventValue) (taken : List CallEntry) (q : ℕ) (e : EventValue) : Type 0 where
   stand : Each (StandsIn files) (queue_events q taken)
   here : StandsIn files e
   before : Each (λ d. d.line < e.line) (queue_events q taken)
 
-event_stands : (behind : ℕ → ℕ → Bool) (n : ℕ) (lag grain : ℤ) (taken : List Entry) (q : ℕ) (e : EventValue) → q < n → (files : FromFiles n lag grain behind (taken ++ Given Stream q (item.Event e) ∷ [])) → Stands (files.files q) taken q e
+event_stands : (behind : ℕ → ℕ → Bool) (n : ℕ) (lag grain : ℤ) (taken : List CallEntry) (q : ℕ) (e : EventValue) → q < n → (files : FromFiles n lag grain behind (taken ++ Given Stream q (item.Event e) ∷ [])) → Stands (files.files q) taken q e
 event_stands behind n lag grain taken q e inside files =
     let es = queue_events q taken in
     let stand : Each (StandsIn (files.files q)) (es ++ e ∷ []) = subst (Each (StandsIn (files.files q))) (own_event q taken e) (files.inside q inside) in
@@ -405,15 +405,15 @@ event_stands behind n lag grain taken q e inside files =
       before = before_last e es (EachPair-across (λ d x. d.line < x.line) es (e ∷ []) order);
     }
 
-events_front : (P : EventValue → Type 0) (q : ℕ) (taken front back : List Entry) → taken ≡ front ++ back → Each P (queue_events q taken) → Each P (queue_events q front)
+events_front : (P : EventValue → Type 0) (q : ℕ) (taken front back : List CallEntry) → taken ≡ front ++ back → Each P (queue_events q taken) → Each P (queue_events q front)
 events_front P q taken front back is h =
     Each-front P (queue_events q front) (queue_events q back) (subst (Each P) (ap (queue_events q) is ∙ flat_map-append (event_from q) front back) h)
 
 -- an event below a mark that its own queue had reached
-own_below : (behind : ℕ → ℕ → Bool) (n : ℕ) (lag grain : ℤ) (taken : List Entry) (q : ℕ) (e : EventValue) (w : ℤ) → pos 1 ≤ℤ grain → q < n → is_closed q taken ≡ false → FromFiles n lag grain behind (taken ++ Given Stream q (item.Event e) ∷ []) → (was : WasLeast n lag grain taken w) → is_idle q was.front ≡ false → e.ts <ℤ w → behind e.part e.line ≡ true
+own_below : (behind : ℕ → ℕ → Bool) (n : ℕ) (lag grain : ℤ) (taken : List CallEntry) (q : ℕ) (e : EventValue) (w : ℤ) → pos 1 ≤ℤ grain → q < n → is_closed q taken ≡ false → FromFiles n lag grain behind (taken ++ Given Stream q (item.Event e) ∷ []) → (was : WasLeast n lag grain taken w) → is_idle q was.front ≡ false → e.ts <ℤ w → behind e.part e.line ≡ true
 own_below behind n lag grain taken q e w step inside going files was awake below =
     let s = event_stands behind n lag grain taken q e inside files in
-    let going_then : is_closed q was.front ≡ false = open_front q was.front was.back (subst (λ (es : List Entry). is_closed q es ≡ false) was.parts going) in
+    let going_then : is_closed q was.front ≡ false = open_front q was.front was.back (subst (λ (es : List CallEntry). is_closed q es ≡ false) was.parts going) in
     told_at (λ x. is_behind lag grain (files.files q) x ≡ true → behind x.part x.line ≡ true) (files.files q) e s.here (files.told q inside)
     (stands_behind lag grain (files.files q) (queue_events q was.front) e w step
     (events_front (StandsIn (files.files q)) q taken was.front was.back was.parts s.stand)
@@ -430,12 +430,12 @@ line_before idles line n stands lt =
     any_true false = refl
 
 -- an event behind an idle line, below the mark that another queue had
-idle_below : (behind : ℕ → ℕ → Bool) (n : ℕ) (lag grain : ℤ) (taken : List Entry) (q : ℕ) (e : EventValue) (w : ℤ) → pos 1 ≤ℤ grain → q < n → FromFiles n lag grain behind (taken ++ Given Stream q (item.Event e) ∷ []) → (was : WasLeast n lag grain taken w) → is_idle q was.front ≡ true → e.ts <ℤ w → behind e.part e.line ≡ true
+idle_below : (behind : ℕ → ℕ → Bool) (n : ℕ) (lag grain : ℤ) (taken : List CallEntry) (q : ℕ) (e : EventValue) (w : ℤ) → pos 1 ≤ℤ grain → q < n → FromFiles n lag grain behind (taken ++ Given Stream q (item.Event e) ∷ []) → (was : WasLeast n lag grain taken w) → is_idle q was.front ≡ true → e.ts <ℤ w → behind e.part e.line ≡ true
 idle_below behind n lag grain taken q e w step inside files was idle below =
     let s = event_stands behind n lag grain taken q e inside files in
     let h = idle_there q was.front idle in
-    let event : Entry = Given Stream q (item.Event e) in
-    let note : Entry = Given Stream q item.Idle in
+    let event : CallEntry = Given Stream q (item.Event e) in
+    let note : CallEntry = Given Stream q item.Idle in
     let whole : taken ++ event ∷ [] ≡ h.front ++ note ∷ ((h.back ++ was.back) ++ event ∷ []) =
     ap (λ es. es ++ event ∷ []) (was.parts ∙ (ap (λ es. es ++ was.back) h.parts ∙ append_assoc h.front (note ∷ h.back) was.back)) ∙ append_assoc h.front (note ∷ h.back ++ was.back) (event ∷ []) in
     let place = files.places q inside h.front ((h.back ++ was.back) ++ event ∷ []) whole in
@@ -454,14 +454,14 @@ idle_below behind n lag grain taken q e w step inside files was idle below =
     own_reach : (u : ℤ) → Reaches u (Some u)
     own_reach u = ≤ℤ_refl u
 
-event_below : (behind : ℕ → ℕ → Bool) (n : ℕ) (lag grain : ℤ) (taken : List Entry) (q : ℕ) (e : EventValue) → pos 1 ≤ℤ grain → q < n → is_closed q taken ≡ false → FromFiles n lag grain behind (taken ++ Given Stream q (item.Event e) ∷ []) → Below behind n lag grain taken (item.Event e)
+event_below : (behind : ℕ → ℕ → Bool) (n : ℕ) (lag grain : ℤ) (taken : List CallEntry) (q : ℕ) (e : EventValue) → pos 1 ≤ℤ grain → q < n → is_closed q taken ≡ false → FromFiles n lag grain behind (taken ++ Given Stream q (item.Event e) ∷ []) → Below behind n lag grain taken (item.Event e)
 event_below behind n lag grain taken q e step inside going files = λ w was below. by w was below (is_idle q was.front) refl
   where
     by : (w : ℤ) (was : WasLeast n lag grain taken w) → e.ts <ℤ w → (b : Bool) → is_idle q was.front ≡ b → behind e.part e.line ≡ true
     by w was below false is = own_below behind n lag grain taken q e w step inside going files was is below
     by w was below true is = idle_below behind n lag grain taken q e w step inside files was is below
 
-item_below : (behind : ℕ → ℕ → Bool) (n : ℕ) (lag grain : ℤ) (taken : List Entry) (q : ℕ) (x : Item) → pos 1 ≤ℤ grain → q < n → is_closed q taken ≡ false → FromFiles n lag grain behind (taken ++ Given Stream q x ∷ []) → Below behind n lag grain taken x
+item_below : (behind : ℕ → ℕ → Bool) (n : ℕ) (lag grain : ℤ) (taken : List CallEntry) (q : ℕ) (x : Item) → pos 1 ≤ℤ grain → q < n → is_closed q taken ≡ false → FromFiles n lag grain behind (taken ++ Given Stream q x ∷ []) → Below behind n lag grain taken x
 item_below behind n lag grain taken q (item.Event e) step inside going files = event_below behind n lag grain taken q e step inside going files
 item_below behind n lag grain taken q (item.Side s) step inside going files = λ w h. tt
 item_below behind n lag grain taken q (item.Frame f) step inside going files = λ w h. tt
@@ -482,15 +482,15 @@ kept_or_not P given item.Idle h k = subst P (sym (append-nil given)) h
 kept_or_not P given (item.Mark m) h k = k
 kept_or_not P given item.Done h k = k
 
-sound_passed : (behind : ℕ → ℕ → Bool) (n : ℕ) (lag grain : ℤ) (taken : List Entry) (entry : Entry) (given : List Item) → pos 1 ≤ℤ grain → Comes n taken entry → Each (IsPast n lag grain taken) given → FromFiles n lag grain behind (taken ++ entry ∷ []) → Sound behind given → Sound behind (given ++ passed entry)
+sound_passed : (behind : ℕ → ℕ → Bool) (n : ℕ) (lag grain : ℤ) (taken : List CallEntry) (entry : CallEntry) (given : List Item) → pos 1 ≤ℤ grain → Comes n taken entry → Each (IsPast n lag grain taken) given → FromFiles n lag grain behind (taken ++ entry ∷ []) → Sound behind given → Sound behind (given ++ passed entry)
 sound_passed behind n lag grain taken (Given Stream q x) given step comes past files s = kept_or_not (Sound behind) given x s
     (record {
       after = pairs_push (SoundAfter behind) given x s.after (Each-more (IsPast n lag grain taken) (λ y. SoundAfter behind y x) (sound_past behind n lag grain taken x (item_below behind n lag grain taken q x step comes.0 comes.2 files)) given past);
       lates = Each-append (LateIsBehind behind) given (x ∷ []) s.lates (late_not behind x (Each-back IsNotLate (items_of taken) (x ∷ []) (subst (Each IsNotLate) (items_next taken (Given Stream q x)) files.no_late)).0, tt);
     })
 sound_passed behind n lag grain taken (Given Build q x) given step comes past files s = absurd comes
-sound_passed behind n lag grain taken (Told t) given step comes past files s = subst (Sound behind) (sym (append-nil given)) s
-sound_passed behind n lag grain taken (Closed port q) given step comes past files s = subst (Sound behind) (sym (append-nil given)) s
+sound_passed behind n lag grain taken (MarkTold t) given step comes past files s = subst (Sound behind) (sym (append-nil given)) s
+sound_passed behind n lag grain taken (QueueClosed port q) given step comes past files s = subst (Sound behind) (sym (append-nil given)) s
 sound_passed behind n lag grain taken Finish given step comes past files s = subst (Sound behind) (sym (append-nil given)) s
 
 above_any : (w : ℤ) (x : Item) → IsData x → IsNoResult x → IsAbove w x
@@ -503,7 +503,7 @@ above_any w item.Idle h k = tt
 above_any w (item.Mark m) h k = absurd h
 above_any w item.Done h k = tt
 
-closed_past : (n : ℕ) (lag grain : ℤ) (taken : List Entry) (x : Item) → ((w : ℤ) → WasLeast n lag grain taken w → IsAbove w x) → (y : Item) → IsPast n lag grain taken y → ClosedAfter y x
+closed_past : (n : ℕ) (lag grain : ℤ) (taken : List CallEntry) (x : Item) → ((w : ℤ) → WasLeast n lag grain taken w → IsAbove w x) → (y : Item) → IsPast n lag grain taken y → ClosedAfter y x
 closed_past n lag grain taken x above (item.Event e) h = tt
 closed_past n lag grain taken x above (item.Side s) h = tt
 closed_past n lag grain taken x above (item.Frame f) h = tt
@@ -513,24 +513,24 @@ closed_past n lag grain taken x above item.Idle h = tt
 closed_past n lag grain taken x above (item.Mark w) h = above w h
 closed_past n lag grain taken x above item.Done h = absurd h
 
-closed_push : (n : ℕ) (lag grain : ℤ) (taken : List Entry) (xs : List Item) (x : Item) → Each (IsPast n lag grain taken) xs → ((w : ℤ) → WasLeast n lag grain taken w → IsAbove w x) → ClosedItems xs → ClosedItems (xs ++ x ∷ [])
+closed_push : (n : ℕ) (lag grain : ℤ) (taken : List CallEntry) (xs : List Item) (x : Item) → Each (IsPast n lag grain taken) xs → ((w : ℤ) → WasLeast n lag grain taken w → IsAbove w x) → ClosedItems xs → ClosedItems (xs ++ x ∷ [])
 closed_push n lag grain taken xs x past above s =
     record { after = pairs_push ClosedAfter xs x s.after (Each-more (IsPast n lag grain taken) (λ y. ClosedAfter y x) (closed_past n lag grain taken x above) xs past) }
 
-closed_passed : (n : ℕ) (lag grain : ℤ) (taken : List Entry) (entry : Entry) (given : List Item) → Comes n taken entry → Each (IsPast n lag grain taken) given → HasNoResults (taken ++ entry ∷ []) → ClosedItems given → ClosedItems (given ++ passed entry)
+closed_passed : (n : ℕ) (lag grain : ℤ) (taken : List CallEntry) (entry : CallEntry) (given : List Item) → Comes n taken entry → Each (IsPast n lag grain taken) given → HasNoResults (taken ++ entry ∷ []) → ClosedItems given → ClosedItems (given ++ passed entry)
 closed_passed n lag grain taken (Given Stream q x) given comes past none s = kept_or_not ClosedItems given x s
     (closed_push n lag grain taken given x past (λ w h. above_any w x comes.1 (Each-back IsNoResult (items_of taken) (x ∷ []) (subst (Each IsNoResult) (items_next taken (Given Stream q x)) none)).0) s)
 closed_passed n lag grain taken (Given Build q x) given comes past none s = absurd comes
-closed_passed n lag grain taken (Told t) given comes past none s = subst ClosedItems (sym (append-nil given)) s
-closed_passed n lag grain taken (Closed port q) given comes past none s = subst ClosedItems (sym (append-nil given)) s
+closed_passed n lag grain taken (MarkTold t) given comes past none s = subst ClosedItems (sym (append-nil given)) s
+closed_passed n lag grain taken (QueueClosed port q) given comes past none s = subst ClosedItems (sym (append-nil given)) s
 closed_passed n lag grain taken Finish given comes past none s = subst ClosedItems (sym (append-nil given)) s
 
-closed_marks : (n : ℕ) (lag grain : ℤ) (before after : List Entry) (xs : List Item) (told : Option ℤ) → Rises n lag grain before after told → Each (IsPast n lag grain before) xs → ClosedItems xs → ClosedItems (xs ++ mark_items told)
+closed_marks : (n : ℕ) (lag grain : ℤ) (before after : List CallEntry) (xs : List Item) (told : Option ℤ) → Rises n lag grain before after told → Each (IsPast n lag grain before) xs → ClosedItems xs → ClosedItems (xs ++ mark_items told)
 closed_marks n lag grain before after xs None r past s = subst ClosedItems (sym (append-nil xs)) s
 closed_marks n lag grain before after xs (Some t) r past s = closed_push n lag grain before xs (item.Mark t) past r.rose.1 s
 
 -- one entry more, with its item and then its mark
-pub stamped_next : (n : ℕ) (lag grain : ℤ) (taken : List Entry) (entry : Entry) (given : List Item) (told : Option ℤ) → pos 1 ≤ℤ grain → Comes n taken entry → Rises n lag grain taken (taken ++ entry ∷ []) told → Stamped n lag grain taken given → Stamped n lag grain (taken ++ entry ∷ []) ((given ++ passed entry) ++ mark_items told)
+pub stamped_next : (n : ℕ) (lag grain : ℤ) (taken : List CallEntry) (entry : CallEntry) (given : List Item) (told : Option ℤ) → pos 1 ≤ℤ grain → Comes n taken entry → Rises n lag grain taken (taken ++ entry ∷ []) told → Stamped n lag grain taken given → Stamped n lag grain (taken ++ entry ∷ []) ((given ++ passed entry) ++ mark_items told)
 stamped_next n lag grain taken entry given told step comes rises h =
     let past : Each (IsPast n lag grain taken) (given ++ passed entry) = Each-append (IsPast n lag grain taken) given (passed entry) h.past (passed_past n lag grain taken taken entry comes) in
     record {

@@ -6,9 +6,9 @@ pub mod FlatLaws
 pub mod Map
 pub mod MapLaws
 pub mod Placing
-pub mod Running
 pub mod Stage
 pub mod StageLaws
 pub mod Stamp
 pub mod Stamping
 pub mod StampLaws
+pub mod inner

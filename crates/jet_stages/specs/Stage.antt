@@ -6,7 +6,7 @@ use Rattle.jet_items.specs.declared.item.Item.{Item}
 use Rattle.jet_items.specs.declared.item.Item.TheVariants as item
 use Rattle.jet_items.specs.Bag.{SameBag}
 use Rattle.jet_items.specs.Kinds.{events_of, others_of, marks_of}
-use Rattle.jet_boxes.specs.Entry.{Entry, Given, Told, Closed, Finish, items_of}
+use Rattle.jet_boxes.specs.Entry.{CallEntry, Given, MarkTold, QueueClosed, Finish, items_of}
 
 -- for one item: the events that f makes of an event, and any other item itself
 abbrev pub item_gives : (EventValue → List EventValue) → Item → List Item
@@ -20,22 +20,22 @@ item_gives f (item.Mark m) = item.Mark m ∷ []
 item_gives f item.Done = item.Done ∷ []
 
 -- for one entry
-abbrev pub gives : (EventValue → List EventValue) → Entry → List Item
+abbrev pub gives : (EventValue → List EventValue) → CallEntry → List Item
 gives f (Given port queue x) = item_gives f x
-gives f (Told t) = item.Mark t ∷ []
-gives f (Closed port queue) = []
+gives f (MarkTold t) = item.Mark t ∷ []
+gives f (QueueClosed port queue) = []
 gives f Finish = []
 
 -- between calls: each entry taken has given what it gives, in order
-abbrev pub StageStands : (EventValue → List EventValue) → List Entry → List Item → Type 0
+abbrev pub StageStands : (EventValue → List EventValue) → List CallEntry → List Item → Type 0
 StageStands f taken given = given ≡ flat_map (gives f) taken
 
 -- The bag law. Together the events given are what `flow` makes of the events taken, and all other data was passed on,
 -- in order.
-pub record StageBag (flow : List EventValue → List EventValue) (taken : List Entry) (given : List Item) : Type 0 where
+pub record StageBag (flow : List EventValue → List EventValue) (taken : List CallEntry) (given : List Item) : Type 0 where
   pub events : SameBag (events_of given) (flow (events_of (items_of taken)))
   pub others : others_of given ≡ others_of (items_of taken)
 
 -- each mark was passed on, in order
-abbrev pub MarksPass : List Entry → List Item → Type 0
+abbrev pub MarksPass : List CallEntry → List Item → Type 0
 MarksPass taken given = marks_of given ≡ marks_of (items_of taken)

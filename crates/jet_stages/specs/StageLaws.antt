@@ -11,7 +11,7 @@ use Rattle.jet_items.specs.Bag.{SameBag}
 use Rattle.jet_items.specs.Kinds.{as_event, as_other, as_mark, events_of, others_of, marks_of}
 use Rattle.jet_items.proofs.Orders.{Shadows, Shadows-refl, EachPair-through, Each-through, Each-front, Sound-front, Closed-front}
 use Rattle.jet_items.proofs.Bags.{SameBag-refl}
-use Rattle.jet_boxes.specs.Entry.{Entry, Given, Told, Closed, Finish, NotDone, entry_items, items_of}
+use Rattle.jet_boxes.specs.Entry.{CallEntry, Given, MarkTold, QueueClosed, Finish, NotDone, entry_items, items_of}
 use Rattle.jet_stages.specs.Stage.{item_gives, gives, StageStands, StageBag, MarksPass}
 
 -- the event stays where e stood: at its line of its file, and at its time
@@ -60,10 +60,10 @@ item_shadow R fits f keeps item.Idle = Shadows-refl R (item.Idle ∷ [])
 item_shadow R fits f keeps (item.Mark m) = Shadows-refl R (item.Mark m ∷ [])
 item_shadow R fits f keeps item.Done = Shadows-refl R (item.Done ∷ [])
 
-entry_shadow : (R : Item → Item → Type 0) (fits : Fits R) (f : EventValue → List EventValue) → KeepsPlace f → (e : Entry) → Shadows R (gives f e) (entry_items e)
+entry_shadow : (R : Item → Item → Type 0) (fits : Fits R) (f : EventValue → List EventValue) → KeepsPlace f → (e : CallEntry) → Shadows R (gives f e) (entry_items e)
 entry_shadow R fits f keeps (Given port queue x) = item_shadow R fits f keeps x
-entry_shadow R fits f keeps (Told m) = Shadows-refl R (item.Mark m ∷ [])
-entry_shadow R fits f keeps (Closed port queue) = Shadows-refl R []
+entry_shadow R fits f keeps (MarkTold m) = Shadows-refl R (item.Mark m ∷ [])
+entry_shadow R fits f keeps (QueueClosed port queue) = Shadows-refl R []
 entry_shadow R fits f keeps Finish = Shadows-refl R []
 
 sound_second : (behind : ℕ → ℕ → Bool) (y : Item) (e d : EventValue) → StandsAt e d → SoundAfter behind y (item.Event e) → SoundAfter behind y (item.Event d)
@@ -102,10 +102,10 @@ item_lates behind f item.Idle h = h
 item_lates behind f (item.Mark m) h = h
 item_lates behind f item.Done h = h
 
-entry_lates : (behind : ℕ → ℕ → Bool) (f : EventValue → List EventValue) (e : Entry) → Each (LateIsBehind behind) (entry_items e) → Each (LateIsBehind behind) (gives f e)
+entry_lates : (behind : ℕ → ℕ → Bool) (f : EventValue → List EventValue) (e : CallEntry) → Each (LateIsBehind behind) (entry_items e) → Each (LateIsBehind behind) (gives f e)
 entry_lates behind f (Given port queue x) h = item_lates behind f x h
-entry_lates behind f (Told m) h = h
-entry_lates behind f (Closed port queue) h = h
+entry_lates behind f (MarkTold m) h = h
+entry_lates behind f (QueueClosed port queue) h = h
 entry_lates behind f Finish h = h
 
 item_open : (f : EventValue → List EventValue) (x : Item) → Each NotDone (x ∷ []) → Each NotDone (item_gives f x)
@@ -118,47 +118,47 @@ item_open f item.Idle h = h
 item_open f (item.Mark m) h = h
 item_open f item.Done h = h
 
-entry_open : (f : EventValue → List EventValue) (e : Entry) → Each NotDone (entry_items e) → Each NotDone (gives f e)
+entry_open : (f : EventValue → List EventValue) (e : CallEntry) → Each NotDone (entry_items e) → Each NotDone (gives f e)
 entry_open f (Given port queue x) h = item_open f x h
-entry_open f (Told m) h = h
-entry_open f (Closed port queue) h = h
+entry_open f (MarkTold m) h = h
+entry_open f (QueueClosed port queue) h = h
 entry_open f Finish h = h
 
 -- what is given for entries whose items are sound is sound, and likewise for closed, and for without Done
-pub gives_sound : (behind : ℕ → ℕ → Bool) (f : EventValue → List EventValue) → KeepsPlace f → (taken : List Entry) → Sound behind (items_of taken) → Sound behind (flat_map (gives f) taken)
+pub gives_sound : (behind : ℕ → ℕ → Bool) (f : EventValue → List EventValue) → KeepsPlace f → (taken : List CallEntry) → Sound behind (items_of taken) → Sound behind (flat_map (gives f) taken)
 gives_sound behind f keeps taken s = record {
   after = EachPair-through (SoundAfter behind) (gives f) entry_items (entry_shadow (SoundAfter behind) (sound_fits behind) f keeps) taken s.after;
   lates = Each-through (LateIsBehind behind) (gives f) entry_items (entry_lates behind f) taken s.lates;
 }
 
-pub gives_closed : (f : EventValue → List EventValue) → KeepsPlace f → (taken : List Entry) → ClosedItems (items_of taken) → ClosedItems (flat_map (gives f) taken)
+pub gives_closed : (f : EventValue → List EventValue) → KeepsPlace f → (taken : List CallEntry) → ClosedItems (items_of taken) → ClosedItems (flat_map (gives f) taken)
 gives_closed f keeps taken s = record { after = EachPair-through ClosedAfter (gives f) entry_items (entry_shadow ClosedAfter closed_fits f keeps) taken s.after }
 
-pub gives_open : (f : EventValue → List EventValue) (taken : List Entry) → Each NotDone (items_of taken) → Each NotDone (flat_map (gives f) taken)
+pub gives_open : (f : EventValue → List EventValue) (taken : List CallEntry) → Each NotDone (items_of taken) → Each NotDone (flat_map (gives f) taken)
 gives_open f taken = Each-through NotDone (gives f) entry_items (entry_open f) taken
 
-items_front : (taken : List Entry) (entry : Entry) → items_of (taken ++ entry ∷ []) ≡ items_of taken ++ items_of (entry ∷ [])
+items_front : (taken : List CallEntry) (entry : CallEntry) → items_of (taken ++ entry ∷ []) ≡ items_of taken ++ items_of (entry ∷ [])
 items_front taken entry = flat_map-append entry_items taken (entry ∷ [])
 
-pub stage_sound : (behind : ℕ → ℕ → Bool) (f : EventValue → List EventValue) → KeepsPlace f → (taken : List Entry) (given : List Item) → StageStands f taken given → Sound behind (items_of taken) → Sound behind given
+pub stage_sound : (behind : ℕ → ℕ → Bool) (f : EventValue → List EventValue) → KeepsPlace f → (taken : List CallEntry) (given : List Item) → StageStands f taken given → Sound behind (items_of taken) → Sound behind given
 stage_sound behind f keeps taken given h s = subst (Sound behind) (sym h) (gives_sound behind f keeps taken s)
 
-pub stage_closed : (f : EventValue → List EventValue) → KeepsPlace f → (taken : List Entry) (given : List Item) → StageStands f taken given → ClosedItems (items_of taken) → ClosedItems given
+pub stage_closed : (f : EventValue → List EventValue) → KeepsPlace f → (taken : List CallEntry) (given : List Item) → StageStands f taken given → ClosedItems (items_of taken) → ClosedItems given
 stage_closed f keeps taken given h s = subst ClosedItems (sym h) (gives_closed f keeps taken s)
 
-pub stage_open : (f : EventValue → List EventValue) (taken : List Entry) (given : List Item) → StageStands f taken given → Each NotDone (items_of taken) → Each NotDone given
+pub stage_open : (f : EventValue → List EventValue) (taken : List CallEntry) (given : List Item) → StageStands f taken given → Each NotDone (items_of taken) → Each NotDone given
 stage_open f taken given h s = subst (Each NotDone) (sym h) (gives_open f taken s)
 
 -- a call that puts nothing before its end
-pub stage_sound_amid : (behind : ℕ → ℕ → Bool) (f : EventValue → List EventValue) → KeepsPlace f → (taken : List Entry) (entry : Entry) (given : List Item) → StageStands f taken given → Sound behind (items_of (taken ++ entry ∷ [])) → Sound behind given
+pub stage_sound_amid : (behind : ℕ → ℕ → Bool) (f : EventValue → List EventValue) → KeepsPlace f → (taken : List CallEntry) (entry : CallEntry) (given : List Item) → StageStands f taken given → Sound behind (items_of (taken ++ entry ∷ [])) → Sound behind given
 stage_sound_amid behind f keeps taken entry given h s =
     stage_sound behind f keeps taken given h (Sound-front behind (items_of taken) (items_of (entry ∷ [])) (subst (Sound behind) (items_front taken entry) s))
 
-pub stage_closed_amid : (f : EventValue → List EventValue) → KeepsPlace f → (taken : List Entry) (entry : Entry) (given : List Item) → StageStands f taken given → ClosedItems (items_of (taken ++ entry ∷ [])) → ClosedItems given
+pub stage_closed_amid : (f : EventValue → List EventValue) → KeepsPlace f → (taken : List CallEntry) (entry : CallEntry) (given : List Item) → StageStands f taken given → ClosedItems (items_of (taken ++ entry ∷ [])) → ClosedItems given
 stage_closed_amid f keeps taken entry given h s =
     stage_closed f keeps taken given h (Closed-front (items_of taken) (items_of (entry ∷ [])) (subst ClosedItems (items_front taken entry) s))
 
-pub stage_open_amid : (f : EventValue → List EventValue) (taken : List Entry) (entry : Entry) (given : List Item) → StageStands f taken given → Each NotDone (items_of (taken ++ entry ∷ [])) → Each NotDone given
+pub stage_open_amid : (f : EventValue → List EventValue) (taken : List CallEntry) (entry : CallEntry) (given : List Item) → StageStands f taken given → Each NotDone (items_of (taken ++ entry ∷ [])) → Each NotDone given
 stage_open_amid f taken entry given h s =
     stage_open f taken given h (Each-front NotDone (items_of taken) (items_of (entry ∷ [])) (subst (Each NotDone) (items_front taken entry) s))
 
@@ -205,25 +205,25 @@ item_marks f item.Idle = refl
 item_marks f (item.Mark m) = refl
 item_marks f item.Done = refl
 
-entry_events : (f : EventValue → List EventValue) (e : Entry) → events_of (gives f e) ≡ flat_map f (events_of (entry_items e))
+entry_events : (f : EventValue → List EventValue) (e : CallEntry) → events_of (gives f e) ≡ flat_map f (events_of (entry_items e))
 entry_events f (Given port queue x) = item_events f x
-entry_events f (Told m) = refl
-entry_events f (Closed port queue) = refl
+entry_events f (MarkTold m) = refl
+entry_events f (QueueClosed port queue) = refl
 entry_events f Finish = refl
 
-entry_others : (f : EventValue → List EventValue) (e : Entry) → others_of (gives f e) ≡ others_of (entry_items e)
+entry_others : (f : EventValue → List EventValue) (e : CallEntry) → others_of (gives f e) ≡ others_of (entry_items e)
 entry_others f (Given port queue x) = item_others f x
-entry_others f (Told m) = refl
-entry_others f (Closed port queue) = refl
+entry_others f (MarkTold m) = refl
+entry_others f (QueueClosed port queue) = refl
 entry_others f Finish = refl
 
-entry_marks : (f : EventValue → List EventValue) (e : Entry) → marks_of (gives f e) ≡ marks_of (entry_items e)
+entry_marks : (f : EventValue → List EventValue) (e : CallEntry) → marks_of (gives f e) ≡ marks_of (entry_items e)
 entry_marks f (Given port queue x) = item_marks f x
-entry_marks f (Told m) = refl
-entry_marks f (Closed port queue) = refl
+entry_marks f (MarkTold m) = refl
+entry_marks f (QueueClosed port queue) = refl
 entry_marks f Finish = refl
 
-pub gives_events : (f : EventValue → List EventValue) (taken : List Entry) → events_of (flat_map (gives f) taken) ≡ flat_map f (events_of (items_of taken))
+pub gives_events : (f : EventValue → List EventValue) (taken : List CallEntry) → events_of (flat_map (gives f) taken) ≡ flat_map f (events_of (items_of taken))
 gives_events f [] = refl
 gives_events f (e ∷ taken) =
     flat_map-append as_event (gives f e) (flat_map (gives f) taken)
@@ -232,7 +232,7 @@ gives_events f (e ∷ taken) =
     ∙ (sym (flat_map-append f (events_of (entry_items e)) (events_of (items_of taken)))
     ∙ ap (flat_map f) (sym (flat_map-append as_event (entry_items e) (items_of taken))))))
 
-pub gives_others : (f : EventValue → List EventValue) (taken : List Entry) → others_of (flat_map (gives f) taken) ≡ others_of (items_of taken)
+pub gives_others : (f : EventValue → List EventValue) (taken : List CallEntry) → others_of (flat_map (gives f) taken) ≡ others_of (items_of taken)
 gives_others f [] = refl
 gives_others f (e ∷ taken) =
     flat_map-append as_other (gives f e) (flat_map (gives f) taken)
@@ -240,7 +240,7 @@ gives_others f (e ∷ taken) =
     ∙ (ap (λ xs. others_of (entry_items e) ++ xs) (gives_others f taken)
     ∙ sym (flat_map-append as_other (entry_items e) (items_of taken))))
 
-pub gives_marks : (f : EventValue → List EventValue) (taken : List Entry) → marks_of (flat_map (gives f) taken) ≡ marks_of (items_of taken)
+pub gives_marks : (f : EventValue → List EventValue) (taken : List CallEntry) → marks_of (flat_map (gives f) taken) ≡ marks_of (items_of taken)
 gives_marks f [] = refl
 gives_marks f (e ∷ taken) =
     flat_map-append as_mark (gives f e) (flat_map (gives f) taken)
@@ -248,12 +248,12 @@ gives_marks f (e ∷ taken) =
     ∙ (ap (λ ts. marks_of (entry_items e) ++ ts) (gives_marks f taken)
     ∙ sym (flat_map-append as_mark (entry_items e) (items_of taken))))
 
-pub stage_bag : (flow : List EventValue → List EventValue) (f : EventValue → List EventValue) → ((es : List EventValue) → flat_map f es ≡ flow es) → (taken : List Entry) (given : List Item) → StageStands f taken given → StageBag flow taken given
+pub stage_bag : (flow : List EventValue → List EventValue) (f : EventValue → List EventValue) → ((es : List EventValue) → flat_map f es ≡ flow es) → (taken : List CallEntry) (given : List Item) → StageStands f taken given → StageBag flow taken given
 stage_bag flow f is taken given h =
     record {
       events = subst (λ (es : List EventValue). SameBag (events_of given) es) (ap events_of h ∙ (gives_events f taken ∙ is (events_of (items_of taken)))) (SameBag-refl (events_of given));
       others = ap others_of h ∙ gives_others f taken;
     }
 
-pub stage_marks : (f : EventValue → List EventValue) (taken : List Entry) (given : List Item) → StageStands f taken given → MarksPass taken given
+pub stage_marks : (f : EventValue → List EventValue) (taken : List CallEntry) (given : List Item) → StageStands f taken given → MarksPass taken given
 stage_marks f taken given h = ap marks_of h ∙ gives_marks f taken

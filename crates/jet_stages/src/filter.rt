@@ -2,7 +2,7 @@
 ghost use Rattle.std.specs.Prelude.{◌≡◌, ℕ, true, false, List, [], ◌∷◌, ◌++◌, Ok, filter};
 ghost use Rattle.std.proofs.Common.{◌∙◌, refl};
 ghost use Rattle.jet_items.specs.Order.{Sound, Closed as ClosedItems};
-ghost use Rattle.jet_boxes.specs.Entry.{Entry, Given, Told, Closed, Finish, items_of};
+ghost use Rattle.jet_boxes.specs.Entry.{CallEntry, Given, MarkTold, QueueClosed, Finish, items_of};
 ghost use Rattle.jet_boxes.specs.Calls.{Call, MayCall};
 ghost use Rattle.jet_stages.specs.Calls.{FilterCall};
 ghost use Rattle.jet_expr.specs.Flows.{passes};
@@ -82,7 +82,7 @@ impl Processor for FilterP {
     }
 
     fn close_queue(&mut self, port: Port, queue: u32, out: &mut Outbox) -> bool
-        ensures call { FilterCall self.old (Closed port queue) out.old (Ok result) self.new out.new }
+        ensures call { FilterCall self.old (QueueClosed port queue) out.old (Ok result) self.new out.new }
         ensures ends { result ≡ true }
     {
         true

@@ -5,7 +5,7 @@ ghost use Rattle.std.specs.List.{flat_map};
 ghost use Rattle.std.proofs.Common.{◌∙◌, refl};
 ghost use Rattle.jet_items.specs.declared.item.Item.TheVariants as item;
 ghost use Rattle.jet_items.specs.Order.{Sound, Closed as ClosedItems};
-ghost use Rattle.jet_boxes.specs.Entry.{Entry, Given, Told, Closed, Finish, items_of};
+ghost use Rattle.jet_boxes.specs.Entry.{CallEntry, Given, MarkTold, QueueClosed, Finish, items_of};
 ghost use Rattle.jet_boxes.specs.Calls.{Call, MayCall};
 ghost use Rattle.jet_stages.specs.Calls.{FlatCall};
 ghost use Rattle.jet_expr.specs.Flows.{flattened};
@@ -95,7 +95,7 @@ impl Processor for FlatP {
     }
 
     fn close_queue(&mut self, port: Port, queue: u32, out: &mut Outbox) -> bool
-        ensures call { FlatCall self.old (Closed port queue) out.old (Ok result) self.new out.new }
+        ensures call { FlatCall self.old (QueueClosed port queue) out.old (Ok result) self.new out.new }
         ensures ends { result ≡ true }
     {
         true

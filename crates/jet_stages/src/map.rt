@@ -3,7 +3,7 @@ ghost use Rattle.std.specs.Prelude.{◌≡◌, ◌<◌, ℕ, true, List, [], ◌
 ghost use Rattle.std.proofs.Common.{◌∙◌, refl};
 ghost use Rattle.jet_items.specs.Order.{Sound, Closed as ClosedItems};
 ghost use Rattle.jet_items.specs.Ranges.{IsWithin, most_time};
-ghost use Rattle.jet_boxes.specs.Entry.{Entry, Given, Told, Closed, Finish, items_of};
+ghost use Rattle.jet_boxes.specs.Entry.{CallEntry, Given, MarkTold, QueueClosed, Finish, items_of};
 ghost use Rattle.jet_boxes.specs.Calls.{Call, MayCall};
 ghost use Rattle.jet_stages.specs.Calls.{MapCall};
 ghost use Rattle.jet_expr.specs.Flows.{field_set, mapped};
@@ -107,7 +107,7 @@ impl Processor for MapP {
     }
 
     fn close_queue(&mut self, port: Port, queue: u32, out: &mut Outbox) -> bool
-        ensures call { MapCall self.old (Closed port queue) out.old (Ok result) self.new out.new }
+        ensures call { MapCall self.old (QueueClosed port queue) out.old (Ok result) self.new out.new }
         ensures ends { result ≡ true }
     {
         true

@@ -7,7 +7,7 @@ ghost use Rattle.jet_items.specs.Order.{Sound, Closed as ClosedItems};
 ghost use Rattle.jet_items.specs.Values.{EventValue};
 ghost use Rattle.jet_coalescer.specs.Queues.{is_done_at};
 ghost use Rattle.jet_boxes.specs.declared.port.Port.TheVariants.{Stream};
-ghost use Rattle.jet_boxes.specs.Entry.{Entry, Given, Told, Closed, Finish, items_of};
+ghost use Rattle.jet_boxes.specs.Entry.{CallEntry, Given, MarkTold, QueueClosed, Finish, items_of};
 ghost use Rattle.jet_boxes.specs.Calls.{Call, MayCall};
 ghost use Rattle.jet_stages.specs.Calls.{StampCall};
 ghost use Rattle.jet_stages.specs.Stamp.{unless_idle, StampMarks, StampBag, StampBagAmid, FromFiles, HasNoResults};
@@ -62,7 +62,7 @@ impl Stamp {
         requires going { is_done_at self.old.queues queue ≡ false }
         requires time { IsWithin most_time ts }
         ensures settings { (self.new.lag ≡ self.old.lag) × (self.new.grain ≡ self.old.grain) × (self.new.owed ≡ self.old.owed) }
-        ensures notes { (taken : List Entry) (e : EventValue) → e.ts ≡ ts → Knows self.old.lag self.old.grain self.old.markers.items self.old.queues taken
+        ensures notes { (taken : List CallEntry) (e : EventValue) → e.ts ≡ ts → Knows self.old.lag self.old.grain self.old.markers.items self.old.queues taken
             → Notes self.old.lag self.old.grain self.old.markers.items self.old.queues self.new.markers.items self.new.queues taken (Given Stream queue (item.Event e)) result }
     {
         match self.markers[queue as usize].see(ts) {
@@ -77,7 +77,7 @@ impl Stamp {
         requires queue { queue < length self.old.queues.queues }
         requires going { is_done_at self.old.queues queue ≡ false }
         ensures settings { (self.new.lag ≡ self.old.lag) × (self.new.grain ≡ self.old.grain) × (self.new.owed ≡ self.old.owed) }
-        ensures notes { (taken : List Entry) → Knows self.old.lag self.old.grain self.old.markers.items self.old.queues taken
+        ensures notes { (taken : List CallEntry) → Knows self.old.lag self.old.grain self.old.markers.items self.old.queues taken
             → Notes self.old.lag self.old.grain self.old.markers.items self.old.queues self.new.markers.items self.new.queues taken (Given Stream queue item.now) result }
     {
         match item {
@@ -93,8 +93,8 @@ impl Stamp {
         requires queue { queue < length self.old.queues.queues }
         requires going { is_done_at self.old.queues queue ≡ false }
         ensures settings { (self.new.lag ≡ self.old.lag) × (self.new.grain ≡ self.old.grain) × (self.new.owed ≡ self.old.owed) }
-        ensures notes { (taken : List Entry) → Knows self.old.lag self.old.grain self.old.markers.items self.old.queues taken
-            → Notes self.old.lag self.old.grain self.old.markers.items self.old.queues self.new.markers.items self.new.queues taken (Closed Stream queue) result }
+        ensures notes { (taken : List CallEntry) → Knows self.old.lag self.old.grain self.old.markers.items self.old.queues taken
+            → Notes self.old.lag self.old.grain self.old.markers.items self.old.queues self.new.markers.items self.new.queues taken (QueueClosed Stream queue) result }
     {
         raised(self.queues.done(queue))
     }
@@ -177,7 +177,7 @@ impl Processor for Stamp {
     }
 
     fn mark(&mut self, mark: Mark, out: &mut Outbox) -> Result<bool, NoMemory>
-        ensures call { StampCall self.old (Told mark) out.old result self.new out.new }
+        ensures call { StampCall self.old (MarkTold mark) out.old result self.new out.new }
         ensures ends { result ≡ Ok true }
         ensures nothing { out.new ≡ out.old }
     {

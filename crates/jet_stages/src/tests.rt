@@ -3,8 +3,8 @@ ghost use Rattle.std.specs.Prelude.{◌≡◌, ℕ, List, [], OnOk, IfSome};
 ghost use Rattle.jet_items.specs.declared.item.Item.{Item};
 ghost use Rattle.jet_items.specs.Ranges.{IsWithin, most_time};
 ghost use Rattle.jet_boxes.specs.declared.port.Port.TheVariants.{Stream};
-ghost use Rattle.jet_boxes.specs.Entry.{Entry, Given, IsData};
-ghost use Rattle.jet_stages.specs.Running.{IsRunning};
+ghost use Rattle.jet_boxes.specs.Entry.{CallEntry, Given, IsData};
+ghost use Rattle.jet_stages.specs.inner.Running.{IsRunning};
 
 use super::*;
 use jet_boxes::{Outbox, Port, Processor};
@@ -24,10 +24,10 @@ fn give<P: Processor>(
     out: &mut Outbox,
     given: &mut Vec<Item>,
 ) -> Result<u32, NoMemory>
-    requires runs { (taken : List Entry) × (past : List Item) × P.stands processor.old taken past × IsRunning taken }
+    requires runs { (taken : List CallEntry) × (past : List Item) × P.stands processor.old taken past × IsRunning taken }
     requires takes { P.takes processor.old Stream queue }
     requires plain { IsData item.now }
-    ensures runs { OnOk result ((taken : List Entry) × (past : List Item) × P.stands processor.new taken past × IsRunning taken) }
+    ensures runs { OnOk result ((taken : List CallEntry) × (past : List Item) × P.stands processor.new taken past × IsRunning taken) }
     ensures same { OnOk result (P.same processor.old processor.new) }
 {
     for tries in 0..10u32 {

@@ -12,7 +12,7 @@ use Rattle.jet_items.specs.Order.{Each, EachPair}
 use Rattle.jet_items.proofs.Orders.{Each-more}
 use Rattle.jet_boxes.specs.declared.port.Port.{Port}
 use Rattle.jet_boxes.specs.declared.port.Port.TheVariants.{Stream, Build}
-use Rattle.jet_boxes.specs.Entry.{Entry, Told, Finish}
+use Rattle.jet_boxes.specs.Entry.{CallEntry, MarkTold, Finish}
 use Rattle.jet_boxes.specs.Ports.{stream_items, build_items, stream_events, build_rows, BuildFirst}
 use Rattle.jet_coalescer.specs.Low.{risen}
 use Rattle.jet_coalescer.specs.declared.coalescer.Coalescer.{Coalescer}
@@ -69,15 +69,15 @@ called_built Stream q item.Idle = refl
 called_built Stream q (item.Mark m) = refl
 called_built Stream q item.Done = refl
 
-none_told : (f : Entry → List Item) → ((t : ℤ) → f (Told t) ≡ []) → (o : Option ℤ) → data_of (flat_map f (tells o)) ≡ []
+none_told : (f : CallEntry → List Item) → ((t : ℤ) → f (MarkTold t) ≡ []) → (o : Option ℤ) → data_of (flat_map f (tells o)) ≡ []
 none_told f h None = refl
-none_told f h (Some t) = ap data_of (append-nil (f (Told t)) ∙ h t)
+none_told f h (Some t) = ap data_of (append-nil (f (MarkTold t)) ∙ h t)
 
-both_data : (f : Entry → List Item) (xs ys : List Entry) → data_of (flat_map f (xs ++ ys)) ≡ data_of (flat_map f xs) ++ data_of (flat_map f ys)
+both_data : (f : CallEntry → List Item) (xs ys : List CallEntry) → data_of (flat_map f (xs ++ ys)) ≡ data_of (flat_map f xs) ++ data_of (flat_map f ys)
 both_data f xs ys = ap data_of (flat_map-append f xs ys) ∙ data_append (flat_map f xs) (flat_map f ys)
 
 -- the finish has no item
-finale_none : {X : Type 0} (f : Entry → List X) → f Finish ≡ [] → (s : Step) → flat_map f (finale s) ≡ []
+finale_none : {X : Type 0} (f : CallEntry → List X) → f Finish ≡ [] → (s : Step) → flat_map f (finale s) ≡ []
 finale_none f none step.Poll = refl
 finale_none f none (step.Make (call.Accept a)) = refl
 finale_none f none (step.Make (call.Close port q then)) = refl
@@ -86,7 +86,7 @@ finale_none {X} f none (step.Make call.Finish) = ap (λ (xs : List X). xs ++ [])
 finale_none {X} f none step.End = ap (λ (xs : List X). xs ++ []) none
 finale_none {X} f none step.Ended = ap (λ (xs : List X). xs ++ []) none
 
-module _ (f : Entry → List Item) (port : Port) (marks : (t : ℤ) → f (Told t) ≡ []) (finish : f Finish ≡ []) (called_is : (p : Port) (q : ℕ) (x : Item) → data_of (flat_map f (called p q x)) ≡ cond (same_port p port) (as_data x) []) where
+module _ (f : CallEntry → List Item) (port : Port) (marks : (t : ℤ) → f (MarkTold t) ≡ []) (finish : f Finish ≡ []) (called_is : (p : Port) (q : ℕ) (x : Item) → data_of (flat_map f (called p q x)) ≡ cond (same_port p port) (as_data x) []) where
   asked : (n : ℕ) (before : List Arrival) (a : Arrival) → data_of (flat_map f (asks n before a)) ≡ cond (same_port a.port port) (as_data a.item) []
   asked n before a =
       let o : Option ℤ = risen (watermark n before) (watermark n (before ++ a ∷ [])) in
@@ -181,10 +181,10 @@ tells_rows : (o : Option ℤ) → build_rows (tells o) ≡ []
 tells_rows None = refl
 tells_rows (Some t) = refl
 
-events_both : (xs ys : List Entry) → stream_events xs ≡ [] → stream_events ys ≡ [] → stream_events (xs ++ ys) ≡ []
+events_both : (xs ys : List CallEntry) → stream_events xs ≡ [] → stream_events ys ≡ [] → stream_events (xs ++ ys) ≡ []
 events_both xs ys h k = flat_map-append _ xs ys ∙ (ap (λ es. es ++ stream_events ys) h ∙ k)
 
-rows_both : (xs ys : List Entry) → build_rows xs ≡ [] → build_rows ys ≡ [] → build_rows (xs ++ ys) ≡ []
+rows_both : (xs ys : List CallEntry) → build_rows xs ≡ [] → build_rows ys ≡ [] → build_rows (xs ++ ys) ≡ []
 rows_both xs ys h k = flat_map-append _ xs ys ∙ (ap (λ es. es ++ build_rows ys) h ∙ k)
 
 none_built : (n : ℕ) (before came : List Arrival) → Each (λ a. a.port ≡ Stream) came → build_rows (entries_after n before came) ≡ []
@@ -212,7 +212,7 @@ builds_come_first n before (a ∷ came) h =
           record {
             front = asks n before a ++ rest.front;
             back = rest.back;
-            parts = ap (λ (es : List Entry). asks n before a ++ es) rest.parts ∙ sym (append_assoc (asks n before a) rest.front rest.back);
+            parts = ap (λ (es : List CallEntry). asks n before a ++ es) rest.parts ∙ sym (append_assoc (asks n before a) rest.front rest.back);
             no_event = events_both (asks n before a) rest.front (events_both (called a.port a.queue a.item) (tells o) (subst (λ (p : Port). stream_events (called p a.queue a.item) ≡ []) (sym is) (streams_none a.queue a.item)) (tells_events o)) rest.no_event;
             no_row = rest.no_row;
           }
@@ -223,7 +223,7 @@ told_first s n came h =
     let b = builds_come_first n [] came h in record {
       front = b.front;
       back = b.back ++ finale s;
-      parts = ap (λ (xs : List Entry). xs ++ finale s) b.parts ∙ append_assoc b.front b.back (finale s);
+      parts = ap (λ (xs : List CallEntry). xs ++ finale s) b.parts ∙ append_assoc b.front b.back (finale s);
       no_event = b.no_event;
       no_row = rows_both b.back (finale s) b.no_row (finale_none _ refl s);
     }

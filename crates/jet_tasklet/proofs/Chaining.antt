@@ -7,7 +7,7 @@ use Rattle.jet_items.specs.declared.item.Item.{Item}
 use Rattle.jet_items.specs.Order.{Each}
 use Rattle.jet_boxes.specs.declared.port.Port.{Port}
 use Rattle.jet_boxes.specs.declared.port.Port.TheVariants.{Stream}
-use Rattle.jet_boxes.specs.Entry.{Entry}
+use Rattle.jet_boxes.specs.Entry.{CallEntry}
 use Rattle.jet_ring.specs.Ring.{Ring, TxView, RxView}
 use Rattle.jet_conveyor.specs.Conveyor as conveyor
 use Rattle.jet_router.specs.declared.router.Router.{Router}
@@ -28,7 +28,7 @@ use Rattle.jet_tasklet.specs.declared.arrival.Arrival.{Arrival}
 use Rattle.jet_tasklet.specs.Views.{ins, outs}
 use Rattle.jet_tasklet.specs.Meeting.{HasEnd, HasQueue, OutputMet, InputMet, AnyGiverMet, AnyTakerMet}
 use Rattle.jet_tasklet.proofs.AnyMeeting.{any_kept, any_keeps}
-use Rattle.jet_tasklet.specs.Chain.{ring_in, ring_out, Ends, ends_of, all_ends, AreLinked, AreJoined, IsChain}
+use Rattle.jet_tasklet.specs.inner.Chain.{ring_in, ring_out, Ends, ends_of, all_ends, AreLinked, AreJoined, IsChain}
 use Rattle.jet_tasklet.proofs.Keeping.{lawful_goes}
 use Rattle.jet_tasklet.proofs.Meeting.{output_keeps}
 

@@ -7,7 +7,7 @@ use Rattle.jet_items.specs.Done.{is_done}
 use Rattle.jet_items.specs.Order.{Each}
 use Rattle.jet_items.proofs.Orders.{Each-append}
 use Rattle.jet_boxes.specs.declared.port.Port.{Port}
-use Rattle.jet_boxes.specs.Entry.{Entry, NotFinish, NotClosed, MayCome, MayAll}
+use Rattle.jet_boxes.specs.Entry.{CallEntry, NotFinish, NotClosed, MayCome, MayAll}
 use Rattle.jet_coalescer.specs.Low.{risen}
 use Rattle.jet_tasklet.specs.declared.arrival.Arrival.{Arrival}
 use Rattle.jet_tasklet.specs.declared.step.Step.{Step}
@@ -21,26 +21,26 @@ use Rattle.jet_tasklet.proofs.Pushing.{by_pushing, entries-push, InOrder-front, 
 use Rattle.jet_tasklet.proofs.Telling.{unfinished, called_unfinished, unclosed}
 
 -- by recursion
-abbrev Comes : (Port → ℕ → Type 0) → List Entry → List Entry → Type 0
+abbrev Comes : (Port → ℕ → Type 0) → List CallEntry → List CallEntry → Type 0
 Comes takes before [] = Unit {0}
 Comes takes before (e ∷ es) = MayCome takes before e × Comes takes (before ++ e ∷ []) es
 
-comes_append : (takes : Port → ℕ → Type 0) (before xs ys : List Entry) → Comes takes before xs → Comes takes (before ++ xs) ys → Comes takes before (xs ++ ys)
-comes_append takes before [] ys h k = subst (λ (es : List Entry). Comes takes es ys) (append-nil before) k
-comes_append takes before (x ∷ xs) ys h k = (h.0, comes_append takes (before ++ x ∷ []) xs ys h.1 (subst (λ (es : List Entry). Comes takes es ys) (sym (append_assoc before (x ∷ []) xs)) k))
+comes_append : (takes : Port → ℕ → Type 0) (before xs ys : List CallEntry) → Comes takes before xs → Comes takes (before ++ xs) ys → Comes takes before (xs ++ ys)
+comes_append takes before [] ys h k = subst (λ (es : List CallEntry). Comes takes es ys) (append-nil before) k
+comes_append takes before (x ∷ xs) ys h k = (h.0, comes_append takes (before ++ x ∷ []) xs ys h.1 (subst (λ (es : List CallEntry). Comes takes es ys) (sym (append_assoc before (x ∷ []) xs)) k))
 
-comes_at : (takes : Port → ℕ → Type 0) (before es front : List Entry) (entry : Entry) (rest : List Entry) → Comes takes before es → es ≡ front ++ entry ∷ rest → MayCome takes (before ++ front) entry
+comes_at : (takes : Port → ℕ → Type 0) (before es front : List CallEntry) (entry : CallEntry) (rest : List CallEntry) → Comes takes before es → es ≡ front ++ entry ∷ rest → MayCome takes (before ++ front) entry
 comes_at takes before [] [] entry rest h is = absurd (cc)
 comes_at takes before [] (f ∷ front) entry rest h is = absurd (cc)
 comes_at takes before (e ∷ es) [] entry rest h is =
-    let same : e ≡ entry = cc in subst (λ (bs : List Entry). MayCome takes bs entry) (sym (append-nil before)) (subst (MayCome takes before) same h.0)
+    let same : e ≡ entry = cc in subst (λ (bs : List CallEntry). MayCome takes bs entry) (sym (append-nil before)) (subst (MayCome takes before) same h.0)
 comes_at takes before (e ∷ es) (f ∷ front) entry rest h is =
     let same : e ≡ f = cc in
     let more : es ≡ front ++ entry ∷ rest = cc in
-    subst (λ (bs : List Entry). MayCome takes bs entry) (append_assoc before (f ∷ []) front)
-    (subst (λ (g : Entry). MayCome takes ((before ++ g ∷ []) ++ front) entry) same (comes_at takes (before ++ e ∷ []) es front entry rest h.1 more))
+    subst (λ (bs : List CallEntry). MayCome takes bs entry) (append_assoc before (f ∷ []) front)
+    (subst (λ (g : CallEntry). MayCome takes ((before ++ g ∷ []) ++ front) entry) same (comes_at takes (before ++ e ∷ []) es front entry rest h.1 more))
 
-called_comes : (takes : Port → ℕ → Type 0) (taken : List Entry) (port : Port) (q : ℕ) (x : Item) → takes port q → Each NotFinish taken → Each (NotClosed port q) taken → Comes takes taken (called port q x)
+called_comes : (takes : Port → ℕ → Type 0) (taken : List CallEntry) (port : Port) (q : ℕ) (x : Item) → takes port q → Each NotFinish taken → Each (NotClosed port q) taken → Comes takes taken (called port q x)
 called_comes takes taken port q (item.Event e) may going still = ((going, may, tt, still), tt)
 called_comes takes taken port q (item.Side s) may going still = ((going, may, tt, still), tt)
 called_comes takes taken port q (item.Frame f) may going still = ((going, may, tt, still), tt)
@@ -50,7 +50,7 @@ called_comes takes taken port q item.Idle may going still = ((going, may, tt, st
 called_comes takes taken port q (item.Mark m) may going still = tt
 called_comes takes taken port q item.Done may going still = ((going, may, still), tt)
 
-tells_comes : (takes : Port → ℕ → Type 0) (taken : List Entry) (o : Option ℤ) → Each NotFinish taken → Comes takes taken (tells o)
+tells_comes : (takes : Port → ℕ → Type 0) (taken : List CallEntry) (o : Option ℤ) → Each NotFinish taken → Comes takes taken (tells o)
 tells_comes takes taken None going = tt
 tells_comes takes taken (Some t) going = (going, tt)
 
@@ -83,7 +83,7 @@ entries_come takes queues n came may =
     (called_comes takes (entries n xs) a.port a.queue a.item (may a.port a.queue) going (unclosed n a.port a.queue xs still))
     (tells_comes takes (entries n xs ++ called a.port a.queue a.item) rose (Each-append NotFinish (entries n xs) (called a.port a.queue a.item) going (called_unfinished a.port a.queue a.item)))))) came
 
-finale_comes : (takes : Port → ℕ → Type 0) (s : Step) (es : List Entry) → Each NotFinish es → Comes takes es (finale s)
+finale_comes : (takes : Port → ℕ → Type 0) (s : Step) (es : List CallEntry) → Each NotFinish es → Comes takes es (finale s)
 finale_comes takes step.Poll es going = tt
 finale_comes takes (step.Make (call.Accept a)) es going = tt
 finale_comes takes (step.Make (call.Close port q then)) es going = tt

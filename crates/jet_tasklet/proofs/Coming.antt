@@ -23,7 +23,7 @@ use Rattle.jet_tasklet.specs.InOrder.{InOrder, MayFollow}
 use Rattle.jet_tasklet.specs.Inputs.{InputView, of_port, rings, received, dones, queue_count, all_done}
 use Rattle.jet_tasklet.specs.Taking.{Took}
 use Rattle.jet_tasklet.specs.Keeps.{Came, IsEven, IsBuild}
-use Rattle.jet_tasklet.specs.Noting.{Notes}
+use Rattle.jet_tasklet.specs.inner.Noting.{Notes}
 use Rattle.jet_tasklet.proofs.Ports.{count_next, count_take}
 use Rattle.jet_tasklet.proofs.Pushing.{of_queue-push}
 use Rattle.jet_tasklet.proofs.Tracing.{own_queue}

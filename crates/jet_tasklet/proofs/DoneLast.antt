@@ -11,7 +11,7 @@ use Rattle.jet_items.specs.Order.{Each, EachPair}
 use Rattle.jet_items.proofs.Orders.{Each-front, Each-more, EachPair-append, EachPair-front}
 use Rattle.jet_boxes.specs.declared.port.Port.{Port}
 use Rattle.jet_boxes.specs.declared.port.Port.TheVariants.{Stream}
-use Rattle.jet_boxes.specs.Entry.{Entry, items_of, NotDone}
+use Rattle.jet_boxes.specs.Entry.{CallEntry, items_of, NotDone}
 use Rattle.jet_conveyor.specs.Conveyor.{EndsIn}
 use Rattle.jet_router.specs.Router as router
 use Rattle.jet_router.specs.Deals.{Deal, FitsAim, reaches_dest, sent_by, items_dealt}
@@ -48,10 +48,10 @@ PutsDone (step.Make c) given = Each NotDone given
 PutsDone step.End given = Each NotDone given
 PutsDone step.Ended given = (front : List Item) × (given ≡ front ++ item.Done ∷ []) × Each NotDone front
 
-puts_done : {P : Type 0} (stands : P → List Entry → List Item → Type 0) (amid : P → List Entry → Entry → List Item → Type 0) (takes : P → Port → ℕ → Type 0) (p : P)
-    → ((taken : List Entry) (given : List Item) → stands p taken given → Each NotDone (items_of taken) → Each NotDone given)
-    → ((taken : List Entry) (entry : Entry) (given : List Item) → amid p taken entry given → Each NotDone (items_of (taken ++ entry ∷ [])) → Each NotDone given)
-    → (s : Step) (es : List Entry) (given : List Item) → Working stands amid takes p s es given → EachFront (λ taken. Each NotDone (items_of taken)) es → PutsDone s given
+puts_done : {P : Type 0} (stands : P → List CallEntry → List Item → Type 0) (amid : P → List CallEntry → CallEntry → List Item → Type 0) (takes : P → Port → ℕ → Type 0) (p : P)
+    → ((taken : List CallEntry) (given : List Item) → stands p taken given → Each NotDone (items_of taken) → Each NotDone given)
+    → ((taken : List CallEntry) (entry : CallEntry) (given : List Item) → amid p taken entry given → Each NotDone (items_of (taken ++ entry ∷ [])) → Each NotDone given)
+    → (s : Step) (es : List CallEntry) (given : List Item) → Working stands amid takes p s es given → EachFront (λ taken. Each NotDone (items_of taken)) es → PutsDone s given
 puts_done stands amid takes p law law_amid step.Poll es given w c = law es given w (c es [] (sym (append-nil es)))
 puts_done stands amid takes p law law_amid (step.Make m) es given w c = law_amid w.0 (entry_of m) given w.2 (c (w.0 ++ entry_of m ∷ []) (then_of m) (w.1 ∙ sym (append_assoc w.0 (entry_of m ∷ []) (then_of m))))
 puts_done stands amid takes p law law_amid step.End es given w c = law es given w (c es [] (sym (append-nil es)))
@@ -181,9 +181,9 @@ module _ (put ended : Type 0) (vs : List InputView) (over : put → (port : Port
     each_list os h.1 (λ e. (g e).1),
   )
 
-pub done_last : {P : Type 0} (stands : P → List Entry → List Item → Type 0) (amid : P → List Entry → Entry → List Item → Type 0) (takes : P → Port → ℕ → Type 0) (t : Tasklet P) (came : List Arrival) (gave : List Item)
-    → ((taken : List Entry) (given : List Item) → stands t.processor taken given → Each NotDone (items_of taken) → Each NotDone given)
-    → ((taken : List Entry) (entry : Entry) (given : List Item) → amid t.processor taken entry given → Each NotDone (items_of (taken ++ entry ∷ [])) → Each NotDone given)
+pub done_last : {P : Type 0} (stands : P → List CallEntry → List Item → Type 0) (amid : P → List CallEntry → CallEntry → List Item → Type 0) (takes : P → Port → ℕ → Type 0) (t : Tasklet P) (came : List Arrival) (gave : List Item)
+    → ((taken : List CallEntry) (given : List Item) → stands t.processor taken given → Each NotDone (items_of taken) → Each NotDone given)
+    → ((taken : List CallEntry) (entry : CallEntry) (given : List Item) → amid t.processor taken entry given → Each NotDone (items_of (taken ++ entry ∷ [])) → Each NotDone given)
     → Keeps stands amid takes t came gave → EachSent (DoneLast (t.step ≡ step.Ended) (HasEnded t) (inputs_view t.inputs.items)) (outputs_view t.outputs.items)
 done_last {P} stands amid takes t came gave law law_amid k =
     let n : ℕ = queue_count Stream (inputs_view t.inputs.items) in

@@ -5,7 +5,7 @@ use Rattle.jet_items.specs.Order.{Each}
 use Rattle.jet_items.proofs.Orders.{Each-append, Each-more}
 use Rattle.jet_boxes.specs.declared.port.Port.{Port}
 use Rattle.jet_boxes.specs.declared.port.Port.TheVariants.{Stream}
-use Rattle.jet_boxes.specs.Entry.{Entry}
+use Rattle.jet_boxes.specs.Entry.{CallEntry}
 use Rattle.jet_coalescer.specs.declared.coalescer.Coalescer.{Coalescer}
 use Rattle.jet_coalescer.specs.Low.{History, HasHeard, unheard}
 use Rattle.jet_conveyor.specs.Conveyor.{View}
@@ -85,7 +85,7 @@ owed_new (v ∷ vs) lt dests unsent =
       some = inl (record { waits = refl; dest = dests.0; owes = λ e. absurd (cc (e, u.free)) });
     }
 
-pub new_keeps : {P : Type 0} (stands : P → List Entry → List Item → Type 0) (amid : P → List Entry → Entry → List Item → Type 0) (takes : P → Port → ℕ → Type 0) (t : Tasklet P) (rs : List router.View) → t.step ≡ step.Poll → t.outbox.items ≡ [] → 1 ≤ t.outbox.room → stands t.processor [] [] → ((port : Port) (q : ℕ) → q < queue_count port (inputs_view t.inputs.items) → takes t.processor port q) → ((port : Port) → queue_count port (inputs_view t.inputs.items) < 2 ^ 32) → Each IsUnread (inputs_view t.inputs.items) → 0 < length rs → Each HasDest rs → Each IsUnsent rs → outputs_view t.outputs.items ≡ map ready rs → HasHeard t.coalescer (replicate (queue_count Stream (inputs_view t.inputs.items)) unheard) → Keeps stands amid takes t [] []
+pub new_keeps : {P : Type 0} (stands : P → List CallEntry → List Item → Type 0) (amid : P → List CallEntry → CallEntry → List Item → Type 0) (takes : P → Port → ℕ → Type 0) (t : Tasklet P) (rs : List router.View) → t.step ≡ step.Poll → t.outbox.items ≡ [] → 1 ≤ t.outbox.room → stands t.processor [] [] → ((port : Port) (q : ℕ) → q < queue_count port (inputs_view t.inputs.items) → takes t.processor port q) → ((port : Port) → queue_count port (inputs_view t.inputs.items) < 2 ^ 32) → Each IsUnread (inputs_view t.inputs.items) → 0 < length rs → Each HasDest rs → Each IsUnsent rs → outputs_view t.outputs.items ≡ map ready rs → HasHeard t.coalescer (replicate (queue_count Stream (inputs_view t.inputs.items)) unheard) → Keeps stands amid takes t [] []
 new_keeps {P} stands amid takes t rs polls empty room new may few unread some dests unsent outs heard_is = record {
   takes_in = came_none (inputs_view t.inputs.items) t.coalescer unread few heard_is;
   gives_out = subst (λ (xs : List Item). Giving [] xs (outputs_view t.outputs.items)) (sym empty) (subst (λ (vs : List OutputView). Each (Gave []) vs) (sym outs) (gave_all rs unsent));
@@ -97,13 +97,13 @@ new_keeps {P} stands amid takes t rs polls empty room new may few unread some de
 }
 
 -- ---- other relations that the processor keeps
-working_as : {P : Type 0} (stands other : P → List Entry → List Item → Type 0) (amid between : P → List Entry → Entry → List Item → Type 0) (takes : P → Port → ℕ → Type 0) → ((p : P) (taken : List Entry) (given : List Item) → stands p taken given → other p taken given) → ((p : P) (taken : List Entry) (entry : Entry) (given : List Item) → amid p taken entry given → between p taken entry given) → (p : P) (s : Step) (es : List Entry) (given : List Item) → Working stands amid takes p s es given → Working other between takes p s es given
+working_as : {P : Type 0} (stands other : P → List CallEntry → List Item → Type 0) (amid between : P → List CallEntry → CallEntry → List Item → Type 0) (takes : P → Port → ℕ → Type 0) → ((p : P) (taken : List CallEntry) (given : List Item) → stands p taken given → other p taken given) → ((p : P) (taken : List CallEntry) (entry : CallEntry) (given : List Item) → amid p taken entry given → between p taken entry given) → (p : P) (s : Step) (es : List CallEntry) (given : List Item) → Working stands amid takes p s es given → Working other between takes p s es given
 working_as stands other amid between takes f h p step.Poll es given w = f p es given w
 working_as stands other amid between takes f h p (step.Make c) es given w = (w.0, w.1, h p w.0 (entry_of c) given w.2, w.3)
 working_as stands other amid between takes f h p step.End es given w = f p es given w
 working_as stands other amid between takes f h p step.Ended es given w = (w.0, w.1, f p es w.0 w.2)
 
-pub keeps_as : {P : Type 0} (stands other : P → List Entry → List Item → Type 0) (amid between : P → List Entry → Entry → List Item → Type 0) (takes : P → Port → ℕ → Type 0) → ((p : P) (taken : List Entry) (given : List Item) → stands p taken given → other p taken given) → ((p : P) (taken : List Entry) (entry : Entry) (given : List Item) → amid p taken entry given → between p taken entry given) → (t : Tasklet P) (came : List Arrival) (gave : List Item) → Keeps stands amid takes t came gave → Keeps other between takes t came gave
+pub keeps_as : {P : Type 0} (stands other : P → List CallEntry → List Item → Type 0) (amid between : P → List CallEntry → CallEntry → List Item → Type 0) (takes : P → Port → ℕ → Type 0) → ((p : P) (taken : List CallEntry) (given : List Item) → stands p taken given → other p taken given) → ((p : P) (taken : List CallEntry) (entry : CallEntry) (given : List Item) → amid p taken entry given → between p taken entry given) → (t : Tasklet P) (came : List Arrival) (gave : List Item) → Keeps stands amid takes t came gave → Keeps other between takes t came gave
 keeps_as stands other amid between takes f h t came gave k = record {
   takes_in = k.takes_in;
   gives_out = k.gives_out;

@@ -11,7 +11,7 @@ use Rattle.jet_items.specs.Order.{Each, EachPair}
 use Rattle.jet_items.proofs.Orders.{Each-more, Each-front, EachPair-front}
 use Rattle.jet_boxes.specs.declared.port.Port.{Port}
 use Rattle.jet_boxes.specs.declared.port.Port.TheVariants.{Stream}
-use Rattle.jet_boxes.specs.Entry.{Entry}
+use Rattle.jet_boxes.specs.Entry.{CallEntry}
 use Rattle.jet_router.specs.Dest.{DestView, settled_by}
 use Rattle.jet_router.specs.Router as router
 use Rattle.jet_router.specs.Deals.{Deal, Dealt, reaches_dest, sent_by, items_dealt}
@@ -89,7 +89,7 @@ sends Q p gave (x ∷ xs) os g q =
     Each-more (InGift gave x) (λ (o : OutputView). (k : ℕ) → k < length o.router.dests → Q (get_or (router.sents o.router) k [])) (λ o h. gift_sent Q p gave x o h first) os g
 
 -- ---- what the processor gave
-pub working_law : {P : Type 0} (stands : P → List Entry → List Item → Type 0) (amid : P → List Entry → Entry → List Item → Type 0) (takes : P → Port → ℕ → Type 0) (C : List Entry → Type 0) (Q : List Item → Type 0) (p : P) → ((taken : List Entry) (given : List Item) → stands p taken given → C taken → Q given) → ((taken : List Entry) (e : Entry) (given : List Item) → amid p taken e given → C (taken ++ e ∷ []) → Q given) → ((taken : List Entry) (given : List Item) → stands p taken given → C taken → Q given → Q (given ++ item.Done ∷ [])) → (s : Step) (es : List Entry) (given : List Item) → Working stands amid takes p s es given → EachFront C es → Q given
+pub working_law : {P : Type 0} (stands : P → List CallEntry → List Item → Type 0) (amid : P → List CallEntry → CallEntry → List Item → Type 0) (takes : P → Port → ℕ → Type 0) (C : List CallEntry → Type 0) (Q : List Item → Type 0) (p : P) → ((taken : List CallEntry) (given : List Item) → stands p taken given → C taken → Q given) → ((taken : List CallEntry) (e : CallEntry) (given : List Item) → amid p taken e given → C (taken ++ e ∷ []) → Q given) → ((taken : List CallEntry) (given : List Item) → stands p taken given → C taken → Q given → Q (given ++ item.Done ∷ [])) → (s : Step) (es : List CallEntry) (given : List Item) → Working stands amid takes p s es given → EachFront C es → Q given
 working_law stands amid takes C Q p law law_amid ends step.Poll es given w c = law es given w (c es [] (sym (append-nil es)))
 working_law stands amid takes C Q p law law_amid ends (step.Make m) es given w c = law_amid w.0 (entry_of m) given w.2 (c (w.0 ++ entry_of m ∷ []) (then_of m) (w.1 ∙ sym (append_assoc w.0 (entry_of m ∷ []) (then_of m))))
 working_law stands amid takes C Q p law law_amid ends step.End es given w c = law es given w (c es [] (sym (append-nil es)))
@@ -120,18 +120,18 @@ pub pair_passing : (R : Item → Item → Type 0) → Passing (EachPair R)
 pair_passing R = record { part = λ k deals h. pair_part R k deals h; front = λ xs ys h. EachPair-front R xs ys h }
 
 -- ---- a tasklet
-module _ {P : Type 0} (stands : P → List Entry → List Item → Type 0) (amid : P → List Entry → Entry → List Item → Type 0) (takes : P → Port → ℕ → Type 0) (t : Tasklet P) (came : List Arrival) (gave : List Item) (k : Keeps stands amid takes t came gave) where
-  abbrev now_told : List Entry
+module _ {P : Type 0} (stands : P → List CallEntry → List Item → Type 0) (amid : P → List CallEntry → CallEntry → List Item → Type 0) (takes : P → Port → ℕ → Type 0) (t : Tasklet P) (came : List Arrival) (gave : List Item) (k : Keeps stands amid takes t came gave) where
+  abbrev now_told : List CallEntry
   now_told = told t.step (queue_count Stream (inputs_view t.inputs.items)) came
 
   -- what holds of what the processor gave, whatever it took of what it is told, and with Done behind it, holds of all that ever entered the outbox
   pub all_entered : (Q : List Item → Type 0)
-      → ((taken more : List Entry) (given : List Item) → stands t.processor taken given → now_told ≡ taken ++ more → Q given)
-      → ((taken : List Entry) (e : Entry) (more : List Entry) (given : List Item) → amid t.processor taken e given → now_told ≡ (taken ++ e ∷ []) ++ more → Q given)
-      → ((taken more : List Entry) (given : List Item) → stands t.processor taken given → now_told ≡ taken ++ more → Q given → Q (given ++ item.Done ∷ []))
+      → ((taken more : List CallEntry) (given : List Item) → stands t.processor taken given → now_told ≡ taken ++ more → Q given)
+      → ((taken : List CallEntry) (e : CallEntry) (more : List CallEntry) (given : List Item) → amid t.processor taken e given → now_told ≡ (taken ++ e ∷ []) ++ more → Q given)
+      → ((taken more : List CallEntry) (given : List Item) → stands t.processor taken given → now_told ≡ taken ++ more → Q given → Q (given ++ item.Done ∷ []))
       → Q (gave ++ t.outbox.items)
   all_entered Q law law_amid done =
-      working_law stands amid takes (λ taken. (more : List Entry) × (now_told ≡ taken ++ more)) Q t.processor
+      working_law stands amid takes (λ taken. (more : List CallEntry) × (now_told ≡ taken ++ more)) Q t.processor
       (λ taken given s front. law taken front.0 given s front.1)
       (λ taken e given a front. law_amid taken e front.0 given a front.1)
       (λ taken given s front q. done taken front.0 given s front.1 q)

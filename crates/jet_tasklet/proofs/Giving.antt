@@ -1,7 +1,7 @@
 -- An output that was given an item.
 use Rattle.std.proofs.Common.{◌≡◌, Bool, true, false, cond, List, [], ◌∷◌, ◌++◌, map, refl, sym, ◌∙◌, ap, subst, append-nil, append_assoc, inl, inr}
 use Rattle.std.specs.Prelude.{All, Option, Some, None, slice_get, IsNone, IfSome}
-use Rattle.jet_boxes.specs.Held.{Held}
+use Rattle.jet_boxes.specs.Held.{BoxView}
 use Rattle.std.proofs.lemmas.List.Elements.{All-head, All-tail, All-cons, All-nil}
 use Rattle.std.proofs.lemmas.List.{map-append}
 use Rattle.jet_items.specs.declared.item.Item.{Item}
@@ -14,7 +14,7 @@ use Rattle.jet_items.specs.Order.{Each}
 use Rattle.jet_items.proofs.Orders.{Each-more}
 use Rattle.jet_tasklet.specs.declared.output.Output.{Output}
 use Rattle.jet_tasklet.specs.Outputs.{OutputView, output_view, outputs_view, ready, InGift, Gave, Giving, SomeBlocked}
-use Rattle.jet_tasklet.specs.Leaving.{Leaves}
+use Rattle.jet_tasklet.specs.inner.Leaving.{Leaves}
 
 abbrev pub is_all : Given → Bool
 is_all given.All = true
@@ -116,6 +116,6 @@ pub front_is : (items : List Item) (x : Item) → Some x ≡ slice_get items 0 �
 front_is [] x h = absurd (cc)
 front_is (y ∷ ys) x h = let e : x ≡ y = cc in (ys, ap (λ (z : Item). z ∷ ys) (sym e))
 
-pub popped : (r : Option Item) (old new : Held) (x : Item) (xs : List Item) → (IsNone r → old.items ≡ []) → IfSome r (λ y. old ≡ record { room = new.room; items = y ∷ new.items }) → old.items ≡ x ∷ xs → new.items ≡ xs
+pub popped : (r : Option Item) (old new : BoxView) (x : Item) (xs : List Item) → (IsNone r → old.items ≡ []) → IfSome r (λ y. old ≡ record { room = new.room; items = y ∷ new.items }) → old.items ≡ x ∷ xs → new.items ≡ xs
 popped None old new x xs none some is = absurd (let e : old.items ≡ [] = none refl in cc)
-popped (Some y) old new x xs none some is = let e : y ∷ new.items ≡ x ∷ xs = sym (ap (λ (h : Held). h.items) some) ∙ is in cc
+popped (Some y) old new x xs none some is = let e : y ∷ new.items ≡ x ∷ xs = sym (ap (λ (h : BoxView). h.items) some) ∙ is in cc

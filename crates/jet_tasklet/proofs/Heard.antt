@@ -10,7 +10,7 @@ use Rattle.jet_items.specs.Done.{is_done}
 use Rattle.jet_items.specs.Kinds.{as_mark, marks_of}
 use Rattle.jet_boxes.specs.declared.port.Port.{Port}
 use Rattle.jet_boxes.specs.declared.port.Port.TheVariants.{Stream, Build}
-use Rattle.jet_boxes.specs.Entry.{Given, Closed, IsData}
+use Rattle.jet_boxes.specs.Entry.{Given, QueueClosed, IsData}
 use Rattle.jet_coalescer.specs.declared.coalescer.Coalescer.{Coalescer}
 use Rattle.jet_coalescer.specs.Low.{History, HasHeard, unheard, with_mark, with_done, all_done, low, risen, change_of, raised}
 use Rattle.jet_tasklet.specs.declared.arrival.Arrival.{Arrival}
@@ -18,7 +18,7 @@ use Rattle.jet_tasklet.specs.declared.step.Step.TheVariants as step
 use Rattle.jet_tasklet.specs.declared.step.Pending.TheVariants as call
 use Rattle.jet_tasklet.specs.Trace.{same_port, is_from, of_queue, has_ended, history, histories, heard, watermark, called, tells, asks}
 use Rattle.jet_tasklet.specs.Steps.{owed, told_next, finale}
-use Rattle.jet_tasklet.specs.Noting.{raised_to, EndsQueue, Notes}
+use Rattle.jet_tasklet.specs.inner.Noting.{raised_to, EndsQueue, Notes}
 use Rattle.jet_tasklet.proofs.Pushing.{of_queue-push}
 use Rattle.jet_tasklet.proofs.Lowest.{AllEnded, ended_low}
 use Rattle.jet_tasklet.proofs.Tracing.{build_heard, risen_same, own_queue}
@@ -212,7 +212,7 @@ note_done_stream co new a o is what lt ends =
           let change : raised_to (change_of (all_done (heard n next)) (watermark n came) (watermark n next)) ≡ risen (watermark n came) (watermark n next) =
           change_is (all_done (heard n next)) (watermark n came) (watermark n next) (λ e. ended_low n (lists_of next) (all_ended n (lists_of next) e)) in
           let rose : o ≡ risen (watermark n came) (watermark n next) = (ends (heard n came) h).1 ∙ (ap (λ (told : List History). raised_to (change_of (all_done told) (watermark n came) (low told))) (done_heard n came a is what lt) ∙ change) in
-          ap (λ (r : Option ℤ). Closed a.port a.queue ∷ tells r) rose ∙ ap (λ (x : Item). called a.port a.queue x ++ tells (risen (watermark n came) (watermark n next))) (sym what);
+          ap (λ (r : Option ℤ). QueueClosed a.port a.queue ∷ tells r) rose ∙ ap (λ (x : Item). called a.port a.queue x ++ tells (risen (watermark n came) (watermark n next))) (sym what);
       goes_on = refl;
     }
 
@@ -220,7 +220,7 @@ note_done_build : (co new : Coalescer) (a : Arrival) (o : Option ℤ) → a.port
 note_done_build co new a o is what ends =
     let n : ℕ = length co.queues in record {
       hears = λ came h. subst (λ (c : Coalescer). HasHeard c (heard n (came ++ a ∷ []))) (sym ends.0) (subst (HasHeard co) (sym (build_heard n came a is)) h);
-      asked = λ came h. ap (λ (r : Option ℤ). Closed a.port a.queue ∷ tells r) ends.1 ∙ sym (asks_same n came a (build_heard n came a is) ∙ ap (called a.port a.queue) what);
+      asked = λ came h. ap (λ (r : Option ℤ). QueueClosed a.port a.queue ∷ tells r) ends.1 ∙ sym (asks_same n came a (build_heard n came a is) ∙ ap (called a.port a.queue) what);
       goes_on = refl;
     }
 

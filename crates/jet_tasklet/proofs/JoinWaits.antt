@@ -9,7 +9,7 @@ use Rattle.jet_items.specs.Values.{SideValue}
 use Rattle.jet_items.proofs.Orders.{Each-append, Each-front, Each-back, Each-more}
 use Rattle.jet_boxes.specs.declared.port.Port.{Port}
 use Rattle.jet_boxes.specs.declared.port.Port.TheVariants.{Stream, Build}
-use Rattle.jet_boxes.specs.Entry.{Entry, Given, Told, Closed, Finish}
+use Rattle.jet_boxes.specs.Entry.{CallEntry, Given, MarkTold, QueueClosed, Finish}
 use Rattle.jet_boxes.specs.Ports.{build_items, build_rows}
 use Rattle.jet_join.specs.declared.join.JoinP.{JoinP}
 use Rattle.jet_join.specs.Stands.{gives, all_given}
@@ -33,7 +33,7 @@ use Rattle.jet_tasklet.proofs.Tracing.{build_heard, from_own}
 use Rattle.jet_tasklet.proofs.Heard.{asks_same}
 
 -- a join gives nothing for it
-abbrev IsQuiet : Entry → Type 0
+abbrev IsQuiet : CallEntry → Type 0
 IsQuiet (Given Stream q x) = ⊥
 IsQuiet (Given Build q (item.Event e)) = ⊥
 IsQuiet (Given Build q (item.Side s)) = Unit {0}
@@ -43,11 +43,11 @@ IsQuiet (Given Build q (item.Late l)) = ⊥
 IsQuiet (Given Build q item.Idle) = ⊥
 IsQuiet (Given Build q (item.Mark m)) = ⊥
 IsQuiet (Given Build q item.Done) = ⊥
-IsQuiet (Told t) = ⊥
-IsQuiet (Closed port q) = Unit {0}
+IsQuiet (MarkTold t) = ⊥
+IsQuiet (QueueClosed port q) = Unit {0}
 IsQuiet Finish = ⊥
 
-none_given : (j : Joining) (rows : List SideValue) (e : Entry) → IsQuiet e → gives j rows e ≡ []
+none_given : (j : Joining) (rows : List SideValue) (e : CallEntry) → IsQuiet e → gives j rows e ≡ []
 none_given j rows (Given Stream q x) h = absurd h
 none_given j rows (Given Build q (item.Event e)) h = absurd h
 none_given j rows (Given Build q (item.Side s)) h = refl
@@ -57,11 +57,11 @@ none_given j rows (Given Build q (item.Late l)) h = absurd h
 none_given j rows (Given Build q item.Idle) h = absurd h
 none_given j rows (Given Build q (item.Mark m)) h = absurd h
 none_given j rows (Given Build q item.Done) h = absurd h
-none_given j rows (Told t) h = absurd h
-none_given j rows (Closed port q) h = refl
+none_given j rows (MarkTold t) h = absurd h
+none_given j rows (QueueClosed port q) h = refl
 none_given j rows Finish h = absurd h
 
-none_of_all : (j : Joining) (rows : List SideValue) (taken : List Entry) → Each IsQuiet taken → all_given j rows taken ≡ []
+none_of_all : (j : Joining) (rows : List SideValue) (taken : List CallEntry) → Each IsQuiet taken → all_given j rows taken ≡ []
 none_of_all j rows [] h = refl
 none_of_all j rows (e ∷ es) h = ap (λ (xs : List Item). xs ++ all_given j (rows ++ sides_of (build_items e)) es) (none_given j rows e h.0) ∙ none_of_all j (rows ++ sides_of (build_items e)) es h.1
 
@@ -98,7 +98,7 @@ of_side count (a ∷ came) builds all inside =
     ((builds.0, own.0), of_side count came builds.1 (λ q lt. Each-back IsOfSide (cond (is_from Build q a) (a.item ∷ []) []) (of_queue Build q came) (all q lt)) inside.1)
 
 -- ---- what it gave
-taken_front : (taken more whole : List Entry) → whole ≡ taken ++ more → Each IsQuiet whole → Each IsQuiet taken × Each IsQuiet more
+taken_front : (taken more whole : List CallEntry) → whole ≡ taken ++ more → Each IsQuiet whole → Each IsQuiet taken × Each IsQuiet more
 taken_front taken more whole is h = let all : Each IsQuiet (taken ++ more) = subst (Each IsQuiet) is h in (Each-front IsQuiet taken more all, Each-back IsQuiet taken more all)
 
 take_nil : (m : ℕ) → take {A = Item} m [] ≡ []
@@ -115,7 +115,7 @@ module _ (t : Tasklet JoinP) (came : List Arrival) (gave : List Item) (vs : List
   over_not : ((port : Port) → all_done port vs ≡ true) → ⊥
   over_not h = let d : all_done Build vs ≡ true = h Build in cc
 
-  amid_none : (e : Entry) (rest : List Entry) (given : List Item) → (taken : List Entry) → entries n came ++ [] ≡ taken ++ e ∷ rest → joins.amid t.processor taken e given → Each IsQuiet (entries n came) → given ≡ []
+  amid_none : (e : CallEntry) (rest : List CallEntry) (given : List Item) → (taken : List CallEntry) → entries n came ++ [] ≡ taken ++ e ∷ rest → joins.amid t.processor taken e given → Each IsQuiet (entries n came) → given ≡ []
   amid_none e rest given taken is a h =
       let parts = taken_front taken (e ∷ rest) (entries n came) (sym (append-nil (entries n came)) ∙ is) h in
       a.gave ∙ (ap (λ (xs : List Item). xs ++ take t.processor.next (gives t.processor.setting (build_rows taken) e)) (none_of_all t.processor.setting [] taken parts.0)

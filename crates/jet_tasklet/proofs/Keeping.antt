@@ -7,9 +7,9 @@ use Rattle.jet_items.specs.declared.no_memory.NoMemory.{NoMemory}
 use Rattle.jet_items.proofs.Orders.{Each-append}
 use Rattle.jet_boxes.specs.declared.port.Port.{Port}
 use Rattle.jet_boxes.specs.declared.port.Port.TheVariants.{Stream, Build}
-use Rattle.jet_boxes.specs.Entry.{Entry, Given, Told, Closed, Finish, NotFinish, MayCome}
+use Rattle.jet_boxes.specs.Entry.{CallEntry, Given, MarkTold, QueueClosed, Finish, NotFinish, MayCome}
 use Rattle.jet_boxes.specs.Calls.{Call, Outcome}
-use Rattle.jet_boxes.specs.Held.{Held}
+use Rattle.jet_boxes.specs.Held.{BoxView}
 use Rattle.jet_tasklet.specs.declared.arrival.Arrival.{Arrival}
 use Rattle.jet_tasklet.specs.declared.step.Step.{Step}
 use Rattle.jet_tasklet.specs.declared.step.Step.TheVariants as step
@@ -29,10 +29,10 @@ use Rattle.jet_tasklet.specs.declared.output.Output.{Output}
 use Rattle.jet_coalescer.specs.Low.{HasHeard}
 use Rattle.jet_tasklet.specs.Trace.{of_queue, has_ended, asks, heard}
 use Rattle.jet_tasklet.specs.Taking.{Took}
-use Rattle.jet_tasklet.specs.Noting.{Notes}
+use Rattle.jet_tasklet.specs.inner.Noting.{Notes}
 use Rattle.std.specs.List.{AllZip}
 use Rattle.jet_tasklet.specs.Turned.{OutputGoes}
-use Rattle.jet_tasklet.specs.Leaving.{Leaves, IsStopped}
+use Rattle.jet_tasklet.specs.inner.Leaving.{Leaves, IsStopped}
 use Rattle.jet_tasklet.specs.Turning.{rank, rank_of, Worked}
 use Rattle.jet_tasklet.specs.Keeps.{Came, IsLawful, Stays, Goes, entered}
 use mathlib.Core.List.{IsPrefix}
@@ -86,46 +86,46 @@ over_after (Ok true) c vs h = over_next c vs h
 over_after (Ok false) c vs h = h
 over_after (Err e) c vs h = h
 
-may_stay : (ta tb : Port → ℕ → Type 0) → ((port : Port) (q : ℕ) → ta port q → tb port q) → (taken : List Entry) (e : Entry) → MayCome ta taken e → MayCome tb taken e
+may_stay : (ta tb : Port → ℕ → Type 0) → ((port : Port) (q : ℕ) → ta port q → tb port q) → (taken : List CallEntry) (e : CallEntry) → MayCome ta taken e → MayCome tb taken e
 may_stay ta tb f taken (Given port q x) h = (h.0, f port q h.1, h.2, h.3)
-may_stay ta tb f taken (Told t) h = h
-may_stay ta tb f taken (Closed port q) h = (h.0, f port q h.1, h.2)
+may_stay ta tb f taken (MarkTold t) h = h
+may_stay ta tb f taken (QueueClosed port q) h = (h.0, f port q h.1, h.2)
 may_stay ta tb f taken Finish h = h
 
-module _ {P : Type 0} (stands : P → List Entry → List Item → Type 0) (amid : P → List Entry → Entry → List Item → Type 0) (takes : P → Port → ℕ → Type 0) (begins : (p : P) (taken : List Entry) (entry : Entry) (given : List Item) → stands p taken given → amid p taken entry given) where
+module _ {P : Type 0} (stands : P → List CallEntry → List Item → Type 0) (amid : P → List CallEntry → CallEntry → List Item → Type 0) (takes : P → Port → ℕ → Type 0) (begins : (p : P) (taken : List CallEntry) (entry : CallEntry) (given : List Item) → stands p taken given → amid p taken entry given) where
   -- a call that has answered true
-  ended : (p : P) (c : Pending) (taken es : List Entry) (given : List Item) → es ≡ taken ++ entry_of c ∷ then_of c → MayCome (takes p) taken (entry_of c) → stands p (taken ++ entry_of c ∷ []) given → Working stands amid takes p (next_of c) es given
-  ended p (call.Accept a) taken es given is may h = subst (λ (xs : List Entry). stands p xs given) (sym is) h
-  ended p (call.Close port q None) taken es given is may h = subst (λ (xs : List Entry). stands p xs given) (sym is) h
+  ended : (p : P) (c : Pending) (taken es : List CallEntry) (given : List Item) → es ≡ taken ++ entry_of c ∷ then_of c → MayCome (takes p) taken (entry_of c) → stands p (taken ++ entry_of c ∷ []) given → Working stands amid takes p (next_of c) es given
+  ended p (call.Accept a) taken es given is may h = subst (λ (xs : List CallEntry). stands p xs given) (sym is) h
+  ended p (call.Close port q None) taken es given is may h = subst (λ (xs : List CallEntry). stands p xs given) (sym is) h
   ended p (call.Close port q (Some t)) taken es given is may h = (
-    taken ++ Closed port q ∷ [],
-    is ∙ sym (append_assoc taken (Closed port q ∷ []) (Told t ∷ [])),
-    begins p (taken ++ Closed port q ∷ []) (Told t) given h,
-    Each-append NotFinish taken (Closed port q ∷ []) may.0 (tt, tt),
+    taken ++ QueueClosed port q ∷ [],
+    is ∙ sym (append_assoc taken (QueueClosed port q ∷ []) (MarkTold t ∷ [])),
+    begins p (taken ++ QueueClosed port q ∷ []) (MarkTold t) given h,
+    Each-append NotFinish taken (QueueClosed port q ∷ []) may.0 (tt, tt),
   )
-  ended p (call.Tell t) taken es given is may h = subst (λ (xs : List Entry). stands p xs given) (sym is) h
-  ended p call.Finish taken es given is may h = subst (λ (xs : List Entry). stands p xs given) (sym is) h
+  ended p (call.Tell t) taken es given is may h = subst (λ (xs : List CallEntry). stands p xs given) (sym is) h
+  ended p call.Finish taken es given is may h = subst (λ (xs : List CallEntry). stands p xs given) (sym is) h
 
-  answered : (p : P) (c : Pending) (taken es : List Entry) (given : List Item) → es ≡ taken ++ entry_of c ∷ then_of c → MayCome (takes p) taken (entry_of c) → (r : Result Bool NoMemory) → Outcome stands amid p taken (entry_of c) given r → Working stands amid takes p (step_after r c) es given
+  answered : (p : P) (c : Pending) (taken es : List CallEntry) (given : List Item) → es ≡ taken ++ entry_of c ∷ then_of c → MayCome (takes p) taken (entry_of c) → (r : Result Bool NoMemory) → Outcome stands amid p taken (entry_of c) given r → Working stands amid takes p (step_after r c) es given
   answered p c taken es given is may (Ok true) h = ended p c taken es given is may h
   answered p c taken es given is may (Ok false) h = (taken, is, h, may)
   answered p c taken es given is may (Err e) h = (taken, is, h, may)
 
   -- after a call for what is pending
-  pub make_keeps : (same : P → P → Type 0) (frugal : Bool) → ((p q : P) (port : Port) (queue : ℕ) → same p q → takes p port queue → takes q port queue) → (t : Tasklet P) (p : P) (out : Held) (c : Pending) (r : Result Bool NoMemory) (came : List Arrival) (gave : List Item) → t.step ≡ step.Make c → Call stands amid same frugal t.processor (entry_of c) t.outbox r p out → Keeps stands amid takes t came gave → Keeps stands amid takes (record { processor = p; inputs = t.inputs; outputs = t.outputs; coalescer = t.coalescer; step = step_after r c; outbox = out }) came gave
+  pub make_keeps : (same : P → P → Type 0) (frugal : Bool) → ((p q : P) (port : Port) (queue : ℕ) → same p q → takes p port queue → takes q port queue) → (t : Tasklet P) (p : P) (out : BoxView) (c : Pending) (r : Result Bool NoMemory) (came : List Arrival) (gave : List Item) → t.step ≡ step.Make c → Call stands amid same frugal t.processor (entry_of c) t.outbox r p out → Keeps stands amid takes t came gave → Keeps stands amid takes (record { processor = p; inputs = t.inputs; outputs = t.outputs; coalescer = t.coalescer; step = step_after r c; outbox = out }) came gave
   make_keeps same frugal stay t p out c r came gave is did k =
       let n : ℕ = queue_count Stream (inputs_view t.inputs.items) in
-      let es : List Entry = told (step.Make c) n came in
+      let es : List CallEntry = told (step.Make c) n came in
       let given : List Item = gave ++ t.outbox.items in
       let w : Working stands amid takes t.processor (step.Make c) es given = subst (λ (s : Step). Working stands amid takes t.processor s (told s n came) given) is k.works in
       let puts : given ++ did.put ≡ gave ++ out.items = append_assoc gave t.outbox.items did.put ∙ ap (λ (xs : List Item). gave ++ xs) (sym did.puts) in
       let may : MayCome (takes p) w.0 (entry_of c) = may_stay (takes t.processor) (takes p) (λ port q h. stay t.processor p port q did.settings h) w.0 (entry_of c) w.3 in
       let after : Working stands amid takes p (step_after r c) es (given ++ did.put) = answered p c w.0 es (given ++ did.put) w.1 may r (did.keeps w.0 given w.2) in
-      let same_es : es ≡ told (step_after r c) n came = ap (λ (fs : List Entry). entries n came ++ fs) (sym (finale_after r c)) in
+      let same_es : es ≡ told (step_after r c) n came = ap (λ (fs : List CallEntry). entries n came ++ fs) (sym (finale_after r c)) in
       record {
         takes_in = k.takes_in;
         gives_out = subst (λ (xs : List Item). Giving gave xs (outputs_view t.outputs.items)) (sym did.puts) (giving_more gave t.outbox.items did.put (outputs_view t.outputs.items) k.gives_out);
-        works = subst (λ (xs : List Entry). Working stands amid takes p (step_after r c) xs (gave ++ out.items)) same_es (subst (λ (xs : List Item). Working stands amid takes p (step_after r c) es xs) puts after);
+        works = subst (λ (xs : List CallEntry). Working stands amid takes p (step_after r c) xs (gave ++ out.items)) same_es (subst (λ (xs : List Item). Working stands amid takes p (step_after r c) es xs) puts after);
         takes_all = λ port q lt. stay t.processor p port q did.settings (k.takes_all port q lt);
         over = over_after r c (inputs_view t.inputs.items) (subst (λ (s : Step). IsOver s (inputs_view t.inputs.items)) is k.over);
         room = subst (λ (m : ℕ). 1 ≤ m) (sym did.room) k.room;
@@ -133,10 +133,10 @@ module _ {P : Type 0} (stands : P → List Entry → List Item → Type 0) (amid
       }
 
   -- Done was put
-  pub done_keeps : (t : Tasklet P) (out : Held) (came : List Arrival) (gave : List Item) → t.step ≡ step.End → out ≡ record { room = t.outbox.room; items = t.outbox.items ++ item.Done ∷ [] } → Keeps stands amid takes t came gave → Keeps stands amid takes (record { processor = t.processor; inputs = t.inputs; outputs = t.outputs; coalescer = t.coalescer; step = step.Ended; outbox = out }) came gave
+  pub done_keeps : (t : Tasklet P) (out : BoxView) (came : List Arrival) (gave : List Item) → t.step ≡ step.End → out ≡ record { room = t.outbox.room; items = t.outbox.items ++ item.Done ∷ [] } → Keeps stands amid takes t came gave → Keeps stands amid takes (record { processor = t.processor; inputs = t.inputs; outputs = t.outputs; coalescer = t.coalescer; step = step.Ended; outbox = out }) came gave
   done_keeps t out came gave is put k =
       let n : ℕ = queue_count Stream (inputs_view t.inputs.items) in
-      let items : out.items ≡ t.outbox.items ++ item.Done ∷ [] = ap (λ (h : Held). h.items) put in
+      let items : out.items ≡ t.outbox.items ++ item.Done ∷ [] = ap (λ (h : BoxView). h.items) put in
       let w : stands t.processor (told step.End n came) (gave ++ t.outbox.items) = subst (λ (s : Step). Working stands amid takes t.processor s (told s n came) (gave ++ t.outbox.items)) is k.works in
       record {
         takes_in = k.takes_in;
@@ -144,7 +144,7 @@ module _ {P : Type 0} (stands : P → List Entry → List Item → Type 0) (amid
         works = (gave ++ t.outbox.items, ap (λ (xs : List Item). gave ++ xs) items ∙ sym (append_assoc gave t.outbox.items (item.Done ∷ [])), w);
         takes_all = k.takes_all;
         over = subst (λ (s : Step). IsOver s (inputs_view t.inputs.items)) is k.over;
-        room = subst (λ (m : ℕ). 1 ≤ m) (sym (ap (λ (h : Held). h.room) put)) k.room;
+        room = subst (λ (m : ℕ). 1 ≤ m) (sym (ap (λ (h : BoxView). h.room) put)) k.room;
         owed = k.owed;
       }
 
@@ -154,7 +154,7 @@ module _ {P : Type 0} (stands : P → List Entry → List Item → Type 0) (amid
       let n : ℕ = queue_count Stream (inputs_view t.inputs.items) in
       let given : List Item = gave ++ t.outbox.items in
       let w : stands t.processor (told step.Poll n came) given = subst (λ (s : Step). Working stands amid takes t.processor s (told s n came) given) is k.works in
-      let stood : stands t.processor (entries n came) given = subst (λ (es : List Entry). stands t.processor es given) (append-nil (entries n came)) w in
+      let stood : stands t.processor (entries n came) given = subst (λ (es : List CallEntry). stands t.processor es given) (append-nil (entries n came)) w in
       record {
         takes_in = k.takes_in;
         gives_out = k.gives_out;
@@ -166,10 +166,10 @@ module _ {P : Type 0} (stands : P → List Entry → List Item → Type 0) (amid
       }
 
   -- items left the outbox
-  pub give_keeps : (t : Tasklet P) (outs : Vec Output Global) (out : Held) (came : List Arrival) (gave : List Item) → Leaves t.outbox.items (outputs_view t.outputs.items) out.items (outputs_view outs.items) → out.room ≡ t.outbox.room → AllZip OutputGoes (outputs_view t.outputs.items) (outputs_view outs.items) → IsStopped out.items (outputs_view outs.items) → Keeps stands amid takes t came gave → (more : List Item) × (t.outbox.items ≡ more ++ out.items) × Keeps stands amid takes (record { processor = t.processor; inputs = t.inputs; outputs = outs; coalescer = t.coalescer; step = t.step; outbox = out }) came (gave ++ more)
+  pub give_keeps : (t : Tasklet P) (outs : Vec Output Global) (out : BoxView) (came : List Arrival) (gave : List Item) → Leaves t.outbox.items (outputs_view t.outputs.items) out.items (outputs_view outs.items) → out.room ≡ t.outbox.room → AllZip OutputGoes (outputs_view t.outputs.items) (outputs_view outs.items) → IsStopped out.items (outputs_view outs.items) → Keeps stands amid takes t came gave → (more : List Item) × (t.outbox.items ≡ more ++ out.items) × Keeps stands amid takes (record { processor = t.processor; inputs = t.inputs; outputs = outs; coalescer = t.coalescer; step = t.step; outbox = out }) came (gave ++ more)
   give_keeps t outs out came gave leaves room goes stops k =
       let l = leaves gave k.gives_out in
-      let es : List Entry = told t.step (queue_count Stream (inputs_view t.inputs.items)) came in
+      let es : List CallEntry = told t.step (queue_count Stream (inputs_view t.inputs.items)) came in
       let same : gave ++ t.outbox.items ≡ (gave ++ l.0) ++ out.items = ap (λ (xs : List Item). gave ++ xs) l.1 ∙ sym (append_assoc gave l.0 out.items) in (
         l.0,
         l.1,
@@ -199,11 +199,11 @@ module _ {P : Type 0} (stands : P → List Entry → List Item → Type 0) (amid
   -- what an item asks is owed next
   working_next : (p : P) (n : ℕ) (came : List Arrival) (a : Arrival) (next : Step) (given : List Item) → owed next ≡ asks n came a → finale next ≡ [] → stands p (entries n came) given → takes p a.port a.queue → has_ended (of_queue a.port a.queue came) ≡ false → Working stands amid takes p next (told next n (came ++ a ∷ [])) given
   working_next p n came a step.Poll given asked goes h may still =
-      let es : entries n (came ++ a ∷ []) ++ [] ≡ entries n came = append-nil (entries n (came ++ a ∷ [])) ∙ (entries-push n came a ∙ (ap (λ (xs : List Entry). entries n came ++ xs) (sym asked) ∙ append-nil (entries n came))) in
-      subst (λ (xs : List Entry). stands p xs given) (sym es) h
+      let es : entries n (came ++ a ∷ []) ++ [] ≡ entries n came = append-nil (entries n (came ++ a ∷ [])) ∙ (entries-push n came a ∙ (ap (λ (xs : List CallEntry). entries n came ++ xs) (sym asked) ∙ append-nil (entries n came))) in
+      subst (λ (xs : List CallEntry). stands p xs given) (sym es) h
   working_next p n came a (step.Make c) given asked goes h may still =
       let es : entries n (came ++ a ∷ []) ++ finale (step.Make c) ≡ entries n came ++ entry_of c ∷ then_of c =
-      ap (λ (xs : List Entry). entries n (came ++ a ∷ []) ++ xs) goes ∙ (append-nil (entries n (came ++ a ∷ [])) ∙ (entries-push n came a ∙ ap (λ (xs : List Entry). entries n came ++ xs) (sym asked))) in
+      ap (λ (xs : List CallEntry). entries n (came ++ a ∷ []) ++ xs) goes ∙ (append-nil (entries n (came ++ a ∷ [])) ∙ (entries-push n came a ∙ ap (λ (xs : List CallEntry). entries n came ++ xs) (sym asked))) in
       (entries n came, es, begins p (entries n came) (entry_of c) given h, head_may (takes p) n came a (entry_of c) (then_of c) may still asked)
   working_next p n came a step.End given asked goes h may still = absurd (cc)
   working_next p n came a step.Ended given asked goes h may still = absurd (cc)
@@ -225,7 +225,7 @@ module _ {P : Type 0} (stands : P → List Entry → List Item → Type 0) (amid
       let n : ℕ = queue_count Stream vs in
       let given : List Item = gave ++ t.outbox.items in
       let w : stands t.processor (told step.Poll n came) given = subst (λ (s : Step). Working stands amid takes t.processor s (told s n came) given) is k.works in
-      let stood : stands t.processor (entries n came) given = subst (λ (es : List Entry). stands t.processor es given) (append-nil (entries n came)) w in
+      let stood : stands t.processor (entries n came) given = subst (λ (es : List CallEntry). stands t.processor es given) (append-nil (entries n came)) w in
       let still : has_ended (of_queue a.port a.queue came) ≡ false = was_open vs ws a took t.coalescer came k.takes_in in
       let counts : queue_count Stream ws ≡ n = count_stays vs ws a took Stream in
       let count : length t.coalescer.queues ≡ n = heard_count vs ws a took t.coalescer came k.takes_in in
@@ -241,7 +241,7 @@ module _ {P : Type 0} (stands : P → List Entry → List Item → Type 0) (amid
         owed = k.owed;
       }
 
-module _ {P : Type 0} (stands : P → List Entry → List Item → Type 0) (amid : P → List Entry → Entry → List Item → Type 0) (takes : P → Port → ℕ → Type 0) where
+module _ {P : Type 0} (stands : P → List CallEntry → List Item → Type 0) (amid : P → List CallEntry → CallEntry → List Item → Type 0) (takes : P → Port → ℕ → Type 0) where
   pub stays_refl : (a : Tasklet P) → Stays stands amid takes a a
   stays_refl a = record { stays = λ came gave k. k }
 
@@ -264,7 +264,7 @@ module _ {P : Type 0} (stands : P → List Entry → List Item → Type 0) (amid
       more,
       [],
       subst (λ (xs : List Item). Keeps stands amid takes b (came ++ more) xs) (sym (append-nil gave)) (f came gave k),
-      entered_more gave a.outbox.items b.outbox.items (subst (λ (h : Held). IsPrefix a.outbox.items h.items) (sym same) (prefix_refl a.outbox.items)),
+      entered_more gave a.outbox.items b.outbox.items (subst (λ (h : BoxView). IsPrefix a.outbox.items h.items) (sym same) (prefix_refl a.outbox.items)),
     );
   }
 

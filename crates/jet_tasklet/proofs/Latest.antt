@@ -6,7 +6,7 @@ use Rattle.jet_items.specs.declared.item.Item.{Item}
 use Rattle.jet_items.specs.declared.item.Item.TheVariants as item
 use Rattle.jet_boxes.specs.declared.port.Port.{Port}
 use Rattle.jet_boxes.specs.declared.port.Port.TheVariants.{Stream}
-use Rattle.jet_boxes.specs.Entry.{Entry}
+use Rattle.jet_boxes.specs.Entry.{CallEntry}
 use Rattle.jet_coalescer.specs.Low.{risen}
 use Rattle.jet_tasklet.specs.declared.arrival.Arrival.{Arrival}
 use Rattle.jet_tasklet.specs.declared.step.Step.{Step}
@@ -20,7 +20,7 @@ use Rattle.jet_tasklet.proofs.Pushing.{by_pushing, entries-push}
 use Rattle.jet_tasklet.proofs.Lowest.{AllEnded, low_bounds, low_above, low_none}
 use Rattle.jet_tasklet.proofs.Tracing.{lists_of, bounds_push, ended_push}
 
-fold_append : (o : Option ℤ) (es fs : List Entry) → fold told_or o (es ++ fs) ≡ fold told_or (fold told_or o es) fs
+fold_append : (o : Option ℤ) (es fs : List CallEntry) → fold told_or o (es ++ fs) ≡ fold told_or (fold told_or o es) fs
 fold_append o [] fs = refl
 fold_append o (e ∷ es) fs = fold_append (told_or o e) es fs
 
@@ -36,7 +36,7 @@ called_last o port q item.Done = refl
 
 last_push : (n : ℕ) (came : List Arrival) (a : Arrival) → last_told (entries n (came ++ a ∷ [])) ≡ fold told_or (last_told (entries n came)) (tells (risen (watermark n came) (watermark n (came ++ a ∷ []))))
 last_push n came a =
-    let ts : List Entry = tells (risen (watermark n came) (watermark n (came ++ a ∷ []))) in
+    let ts : List CallEntry = tells (risen (watermark n came) (watermark n (came ++ a ∷ []))) in
     ap last_told (entries-push n came a) ∙ (fold_append None (entries n came) (asks n came a) ∙ (fold_append (last_told (entries n came)) (called a.port a.queue a.item) ts
     ∙ ap (λ (o : Option ℤ). fold told_or o ts) (called_last (last_told (entries n came)) a.port a.queue a.item)))
 

@@ -14,7 +14,7 @@ use Rattle.jet_items.specs.Order.{Each}
 use Rattle.jet_items.proofs.Orders.{Each-append, Each-front, Each-more}
 use Rattle.jet_boxes.specs.declared.port.Port.{Port}
 use Rattle.jet_boxes.specs.declared.port.Port.TheVariants.{Stream}
-use Rattle.jet_boxes.specs.Entry.{Entry, Given, Told, Closed, Finish, IsData, items_of}
+use Rattle.jet_boxes.specs.Entry.{CallEntry, Given, MarkTold, QueueClosed, Finish, IsData, items_of}
 use Rattle.jet_coalescer.specs.Low.{History, low, least, risen, has_risen}
 use Rattle.jet_router.specs.Router as router
 use Rattle.jet_router.specs.Deals.{Deal, FitsAim, reaches_dest, sent_by, items_dealt}
@@ -131,19 +131,19 @@ called_marks port q item.Idle = refl
 called_marks port q (item.Mark m) = refl
 called_marks port q item.Done = refl
 
-marks_append : (es fs : List Entry) → marks_of (items_of (es ++ fs)) ≡ marks_of (items_of es) ++ marks_of (items_of fs)
+marks_append : (es fs : List CallEntry) → marks_of (items_of (es ++ fs)) ≡ marks_of (items_of es) ++ marks_of (items_of fs)
 marks_append es fs = ap marks_of (items_of-append es fs) ∙ flat_map-append as_mark (items_of es) (items_of fs)
 
 entries_marks : (P : ℤ → Type 0) (n : ℕ) (came : List Arrival) → ((q : ℕ) → q < n → Each P (marks_of (of_queue Stream q came))) → Each P (marks_of (items_of (entries n came)))
 entries_marks P n came =
     by_pushing (λ xs. ((q : ℕ) → q < n → Each P (marks_of (of_queue Stream q xs))) → Each P (marks_of (items_of (entries n xs)))) (λ h. tt) (λ xs a ih h.
-    let ts : List Entry = tells (risen (watermark n xs) (watermark n (xs ++ a ∷ []))) in
+    let ts : List CallEntry = tells (risen (watermark n xs) (watermark n (xs ++ a ∷ []))) in
     let was : (q : ℕ) → q < n → Each P (marks_of (of_queue Stream q xs)) = λ q lt.
     let more : List Item = cond (is_from Stream q a) (a.item ∷ []) [] in
     Each-front P (marks_of (of_queue Stream q xs)) (marks_of more) (subst (Each P) (ap marks_of (of_queue-push Stream q xs a) ∙ flat_map-append as_mark (of_queue Stream q xs) more) (h q lt)) in
     let low_has : IfMark P (watermark n (xs ++ a ∷ [])) = by_low P (heard n (xs ++ a ∷ [])) (heard_marks P n (λ q. of_queue Stream q (xs ++ a ∷ [])) h) (watermark n (xs ++ a ∷ [])) refl in
     let asked : marks_of (items_of (asks n xs a)) ≡ marks_of (items_of ts) = marks_append (called a.port a.queue a.item) ts ∙ ap (λ (ms : List ℤ). ms ++ marks_of (items_of ts)) (called_marks a.port a.queue a.item) in
-    subst (Each P) (sym (ap (λ (es : List Entry). marks_of (items_of es)) (entries-push n xs a) ∙ marks_append (entries n xs) (asks n xs a)))
+    subst (Each P) (sym (ap (λ (es : List CallEntry). marks_of (items_of es)) (entries-push n xs a) ∙ marks_append (entries n xs) (asks n xs a)))
     (Each-append P (marks_of (items_of (entries n xs))) (marks_of (items_of (asks n xs a))) (ih was)
     (subst (Each P) (sym asked) (risen_mark P (watermark n xs) (watermark n (xs ++ a ∷ [])) low_has)))) came
 
@@ -192,23 +192,23 @@ data_marks (item.Mark m) h = absurd h
 data_marks item.Done h = absurd h
 
 -- an item that was handed on is no mark
-abbrev HandsData : Entry → Type 0
+abbrev HandsData : CallEntry → Type 0
 HandsData (Given port q x) = IsData x
-HandsData (Told t) = Unit {0}
-HandsData (Closed port q) = Unit {0}
+HandsData (MarkTold t) = Unit {0}
+HandsData (QueueClosed port q) = Unit {0}
 HandsData Finish = Unit {0}
 
-last_is_told : (o : Option ℤ) (es : List Entry) → Each HandsData es → last_or o (marks_of (items_of es)) ≡ fold told_or o es
+last_is_told : (o : Option ℤ) (es : List CallEntry) → Each HandsData es → last_or o (marks_of (items_of es)) ≡ fold told_or o es
 last_is_told o [] h = refl
 last_is_told o (Given port q x ∷ es) h = ap (λ (ms : List ℤ). last_or o (ms ++ marks_of (items_of es))) (data_marks x h.0) ∙ last_is_told o es h.1
-last_is_told o (Told t ∷ es) h = last_is_told (Some t) es h.1
-last_is_told o (Closed port q ∷ es) h = last_is_told o es h.1
+last_is_told o (MarkTold t ∷ es) h = last_is_told (Some t) es h.1
+last_is_told o (QueueClosed port q ∷ es) h = last_is_told o es h.1
 last_is_told o (Finish ∷ es) h = last_is_told o es h.1
 
-hands_data : (n : ℕ) (came : List Arrival) (e : Entry) → Holds n came e → HandsData e
+hands_data : (n : ℕ) (came : List Arrival) (e : CallEntry) → Holds n came e → HandsData e
 hands_data n came (Given port q x) h = h
-hands_data n came (Told t) h = tt
-hands_data n came (Closed port q) h = tt
+hands_data n came (MarkTold t) h = tt
+hands_data n came (QueueClosed port q) h = tt
 hands_data n came Finish h = tt
 
 -- ---- the least of the greatest marks of the open queues
@@ -224,7 +224,7 @@ open_all (suc n) lists done d =
     (open_one (has_ended (lists 0)) (greatest_mark (lists 0)) (history (lists 0)) (filter (λ g. not g.done) (histories n (λ q. lists (suc q)))) (of_open n (λ q. done (suc q)) (λ q. greatest_mark (lists (suc q)))) (open_all n (λ q. lists (suc q)) (λ q. done (suc q)) (λ q lt. d (suc q) (omega (arith, lt)))) refl)
 
 -- ---- a tasklet whose processor passes marks on
-module _ {P : Type 0} (marks : P → List Entry → List Item → Type 0) (amid : P → List Entry → Entry → List Item → Type 0) (takes : P → Port → ℕ → Type 0) (t : Tasklet P) (came : List Arrival) (gave : List Item) (k : Keeps marks amid takes t came gave) where
+module _ {P : Type 0} (marks : P → List CallEntry → List Item → Type 0) (amid : P → List CallEntry → CallEntry → List Item → Type 0) (takes : P → Port → ℕ → Type 0) (t : Tasklet P) (came : List Arrival) (gave : List Item) (k : Keeps marks amid takes t came gave) where
   abbrev vs : List InputView
   vs = inputs_view t.inputs.items
 
@@ -242,7 +242,7 @@ module _ {P : Type 0} (marks : P → List Entry → List Item → Type 0) (amid 
   told_has : EachFront (λ taken. Each (IsReceived vs) (marks_of (items_of taken))) (told t.step n came)
   told_has = told_fronts (λ xs. Each (IsReceived vs) (marks_of xs)) (λ xs ys h. Each-front (IsReceived vs) (marks_of xs) (marks_of ys) (subst (Each (IsReceived vs)) (flat_map-append as_mark xs ys) h)) t.step n came (entries_marks (IsReceived vs) n came queue_has)
 
-  entered_each : PassMarks (marks t.processor) → ((entry : Entry) → PassMarks (λ taken given. amid t.processor taken entry given)) → Each (MarkHas (IsReceived vs)) (gave ++ t.outbox.items)
+  entered_each : PassMarks (marks t.processor) → ((entry : CallEntry) → PassMarks (λ taken given. amid t.processor taken entry given)) → Each (MarkHas (IsReceived vs)) (gave ++ t.outbox.items)
   entered_each law law_amid =
       all_entered marks amid takes t came gave k (Each (MarkHas (IsReceived vs)))
       (λ taken more given m is. each_marks (IsReceived vs) given (subst (Each (IsReceived vs)) (sym (law taken given m)) (told_has taken more is)))
@@ -250,7 +250,7 @@ module _ {P : Type 0} (marks : P → List Entry → List Item → Type 0) (amid 
       (λ taken more given m is q. Each-append (MarkHas (IsReceived vs)) given (item.Done ∷ []) q (tt, tt))
 
   -- each mark that ever entered the outbox was received, and so was each that was sent
-  pub marks_entered : PassMarks (marks t.processor) → ((entry : Entry) → PassMarks (λ taken given. amid t.processor taken entry given)) → Each (IsReceived vs) (marks_of (gave ++ t.outbox.items))
+  pub marks_entered : PassMarks (marks t.processor) → ((entry : CallEntry) → PassMarks (λ taken given. amid t.processor taken entry given)) → Each (IsReceived vs) (marks_of (gave ++ t.outbox.items))
   marks_entered law law_amid = marks_each (IsReceived vs) (gave ++ t.outbox.items) (entered_each law law_amid)
 
   pub sent_each : (Q : ℤ → Type 0) → Each (MarkHas Q) (gave ++ t.outbox.items) → EachSent (λ xs. Each Q (marks_of xs)) (outputs_view t.outputs.items)
@@ -259,7 +259,7 @@ module _ {P : Type 0} (marks : P → List Entry → List Item → Type 0) (amid 
       (λ o h k lt. marks_each Q (get_or (router.sents o.router) k []) (h k lt)) (outputs_view t.outputs.items)
       (all_sent marks amid takes t came gave k (Each (MarkHas Q)) (each_passing (MarkHas Q)) h)
 
-  pub marks_sent : PassMarks (marks t.processor) → ((entry : Entry) → PassMarks (λ taken given. amid t.processor taken entry given)) → EachSent (λ xs. Each (IsReceived vs) (marks_of xs)) (outputs_view t.outputs.items)
+  pub marks_sent : PassMarks (marks t.processor) → ((entry : CallEntry) → PassMarks (λ taken given. amid t.processor taken entry given)) → EachSent (λ xs. Each (IsReceived vs) (marks_of xs)) (outputs_view t.outputs.items)
   marks_sent law law_amid = sent_each (IsReceived vs) (entered_each law law_amid)
 
   last_gave : PassMarks (marks t.processor) → IsAtRest t → last_mark gave ≡ last_told (told step.Poll n came)

@@ -9,7 +9,7 @@ use Rattle.jet_items.specs.Order.{Each}
 use Rattle.jet_items.proofs.Orders.{Each-more}
 use Rattle.jet_boxes.specs.declared.port.Port.{Port}
 use Rattle.jet_boxes.specs.declared.port.Port.TheVariants.{Stream, Build}
-use Rattle.jet_boxes.specs.Entry.{Entry}
+use Rattle.jet_boxes.specs.Entry.{CallEntry}
 use Rattle.jet_coalescer.specs.declared.coalescer.Coalescer.{Coalescer}
 use Rattle.jet_coalescer.specs.Low.{HasHeard}
 use Rattle.jet_conveyor.specs.declared.conveyor.Conveyor.{Conveyor}
@@ -78,7 +78,7 @@ module _ (vs ws : List InputView) (a : IsAlike vs ws) where
   over_alike step.Ended h = λ port. done_alike port ∙ h port
 
   -- what a tasklet keeps speaks of nothing that is known
-  pub alike_keeps : {P : Type 0} (stands : P → List Entry → List Item → Type 0) (amid : P → List Entry → Entry → List Item → Type 0) (takes : P → Port → ℕ → Type 0) (t u : Tasklet P) (came : List Arrival) (gave : List Item) → vs ≡ inputs_view t.inputs.items → ws ≡ inputs_view u.inputs.items → u ≡ record t { inputs = u.inputs } → Keeps stands amid takes t came gave → Keeps stands amid takes u came gave
+  pub alike_keeps : {P : Type 0} (stands : P → List CallEntry → List Item → Type 0) (amid : P → List CallEntry → CallEntry → List Item → Type 0) (takes : P → Port → ℕ → Type 0) (t u : Tasklet P) (came : List Arrival) (gave : List Item) → vs ≡ inputs_view t.inputs.items → ws ≡ inputs_view u.inputs.items → u ≡ record t { inputs = u.inputs } → Keeps stands amid takes t came gave → Keeps stands amid takes u came gave
   alike_keeps {P} stands amid takes t u came gave before after is k =
       let ins = u.inputs in
       let came_t : Came vs t.coalescer came = subst (λ (xs : List InputView). Came xs t.coalescer came) (sym before) k.takes_in in
@@ -130,7 +130,7 @@ see_from : {A X : Type 0} (see : A → X) (xs : List A) (i : ℕ) (d : A) (x : X
 see_from see xs i d x at = sym (see_at see xs i d) ∙ get_or_from_slice_get (map see xs) i x (see d) at
 
 -- the conveyor of one input met
-pub input_keeps : {P : Type 0} (stands : P → List Entry → List Item → Type 0) (amid : P → List Entry → Entry → List Item → Type 0) (takes : P → Port → ℕ → Type 0) (t : Tasklet P) (came : List Arrival) (gave : List Item) (n q : ℕ) (was w : Conveyor) → slice_get (map (λ (i : Input). i.conveyor) t.inputs.items) n ≡ Some was → conveyor.Refreshed (conveyor.view was) (conveyor.view w) q → Keeps stands amid takes t came gave → Keeps stands amid takes (with_input t n was w) came gave
+pub input_keeps : {P : Type 0} (stands : P → List CallEntry → List Item → Type 0) (amid : P → List CallEntry → CallEntry → List Item → Type 0) (takes : P → Port → ℕ → Type 0) (t : Tasklet P) (came : List Arrival) (gave : List Item) (n q : ℕ) (was w : Conveyor) → slice_get (map (λ (i : Input). i.conveyor) t.inputs.items) n ≡ Some was → conveyor.Refreshed (conveyor.view was) (conveyor.view w) q → Keeps stands amid takes t came gave → Keeps stands amid takes (with_input t n was w) came gave
 input_keeps stands amid takes t came gave n q was w at met k =
     let xs : List Input = t.inputs.items in
     let other : Input = record { port = Stream; conveyor = was } in
@@ -213,7 +213,7 @@ giving_same gave (x ∷ items) os i d was other w lt r is g =
     each_set output_view (InGift gave x) os i (record { router = w; had = had }) g (in_gift_same (router.view was.router) (router.view w) d r gave x had first)
 
 -- the router of one output met
-pub output_keeps : {P : Type 0} (stands : P → List Entry → List Item → Type 0) (amid : P → List Entry → Entry → List Item → Type 0) (takes : P → Port → ℕ → Type 0) (t : Tasklet P) (came : List Arrival) (gave : List Item) (n d : ℕ) (was w : Router) → slice_get (map (λ (o : Output). o.router) t.outputs.items) n ≡ Some was → router.Refreshed (router.view was) (router.view w) d → Keeps stands amid takes t came gave → Keeps stands amid takes (with_output t n was w) came gave
+pub output_keeps : {P : Type 0} (stands : P → List CallEntry → List Item → Type 0) (amid : P → List CallEntry → CallEntry → List Item → Type 0) (takes : P → Port → ℕ → Type 0) (t : Tasklet P) (came : List Arrival) (gave : List Item) (n d : ℕ) (was w : Router) → slice_get (map (λ (o : Output). o.router) t.outputs.items) n ≡ Some was → router.Refreshed (router.view was) (router.view w) d → Keeps stands amid takes t came gave → Keeps stands amid takes (with_output t n was w) came gave
 output_keeps stands amid takes t came gave n d was w at met k =
     let xs : List Output = t.outputs.items in
     let other : Output = record { router = was; had = false } in

@@ -6,7 +6,7 @@ use Rattle.std.proofs.lemmas.Option.{slice_get_within}
 use Rattle.jet_items.specs.declared.item.Item.{Item}
 use Rattle.jet_boxes.specs.declared.port.Port.{Port}
 use Rattle.jet_boxes.specs.declared.port.Port.TheVariants.{Stream}
-use Rattle.jet_boxes.specs.Entry.{Entry}
+use Rattle.jet_boxes.specs.Entry.{CallEntry}
 use Rattle.jet_ring.specs.Ring.{Ring, TxView, RxView, tx_ring, tx_view}
 use Rattle.jet_ring.specs.declared.ends.Tx.{Tx}
 use Rattle.jet_conveyor.specs.declared.conveyor.Conveyor.{Conveyor}
@@ -91,7 +91,7 @@ input_met is i q v was w at value met = record {
   met = subst (λ (u : conveyor.View). conveyor.Refreshed u (conveyor.view w) q) (sym (conveyor_seen is i v was at value)) met;
 }
 
-module _ {P : Type 0} (stands : P → List Entry → List Item → Type 0) (amid : P → List Entry → Entry → List Item → Type 0) (takes : P → Port → ℕ → Type 0) where
+module _ {P : Type 0} (stands : P → List CallEntry → List Item → Type 0) (amid : P → List CallEntry → CallEntry → List Item → Type 0) (takes : P → Port → ℕ → Type 0) where
   abbrev pub giver_met : (t : Tasklet P) (o d : ℕ) (v : OutputView) (was w : Router) → slice_get (outputs_view t.outputs.items) o ≡ Some v → slice_get (map (λ (x : Output). x.router) t.outputs.items) o ≡ Some was → router.Refreshed (router.view was) (router.view w) d → GiverMet stands amid takes t (with_output t o was w) o d
   giver_met t o d v was w at value met = record {
     keeps = record { stays = λ came gave k. output_keeps stands amid takes t came gave o d was w value met k };

@@ -11,7 +11,7 @@ use Rattle.jet_items.specs.Order.{Each}
 use Rattle.jet_items.specs.Bag.{SameBag, all_of}
 use Rattle.jet_boxes.specs.declared.port.Port.{Port}
 use Rattle.jet_boxes.specs.declared.port.Port.TheVariants.{Stream, Build}
-use Rattle.jet_boxes.specs.Entry.{Entry, items_of}
+use Rattle.jet_boxes.specs.Entry.{CallEntry, items_of}
 use Rattle.jet_coalescer.specs.Low.{risen}
 use Rattle.jet_tasklet.specs.declared.arrival.Arrival.{Arrival}
 use Rattle.jet_tasklet.specs.Trace.{same_port, is_from, of_queue, watermark, called, tells, asks, entries}
@@ -49,7 +49,7 @@ data_came came = flat_map (λ a. as_data a.item) came
 entries_data : (n : ℕ) (came : List Arrival) → data_of (items_of (entries n came)) ≡ data_came came
 entries_data n came =
     by_pushing (λ (xs : List Arrival). data_of (items_of (entries n xs)) ≡ data_came xs) refl (λ xs a ih.
-    ap (λ (es : List Entry). data_of (items_of es)) (entries-push n xs a) ∙ (ap data_of (items_of-append (entries n xs) (asks n xs a)) ∙ (data_append (items_of (entries n xs)) (items_of (asks n xs a))
+    ap (λ (es : List CallEntry). data_of (items_of es)) (entries-push n xs a) ∙ (ap data_of (items_of-append (entries n xs) (asks n xs a)) ∙ (data_append (items_of (entries n xs)) (items_of (asks n xs a))
     ∙ (ap (λ (ys : List Item). data_of (items_of (entries n xs)) ++ ys) (asks_data n xs a) ∙ (ap (λ (ys : List Item). ys ++ as_data a.item) ih
     ∙ sym (flat_map-append (λ (b : Arrival). as_data b.item) xs (a ∷ []) ∙ ap (λ (ys : List Item). data_came xs ++ ys) (append-nil (as_data a.item)))))))) came
 

@@ -9,7 +9,7 @@ use Rattle.jet_items.specs.Order.{Each, Sound, Closed as ClosedItems}
 use Rattle.jet_items.proofs.Bags.{SameBag-refl, SameBag-trans, SameBag-append, SameBag-all_of}
 use Rattle.jet_boxes.specs.declared.port.Port.{Port}
 use Rattle.jet_boxes.specs.declared.port.Port.TheVariants.{Stream, Build}
-use Rattle.jet_boxes.specs.Entry.{Entry, NotDone, AnyQueue, items_of}
+use Rattle.jet_boxes.specs.Entry.{CallEntry, NotDone, AnyQueue, items_of}
 use Rattle.jet_coalescer.specs.declared.coalescer.Coalescer.{Coalescer}
 use Rattle.jet_tasklet.specs.declared.arrival.Arrival.{Arrival}
 use Rattle.jet_tasklet.specs.declared.step.Step.{Step}
@@ -41,7 +41,7 @@ all_bag vs co came s h =
     (SameBag-trans (merge_bag (λ port. queue_count port vs) (queue_count Stream vs) came h.in_order.inside) (SameBag-append (port_bag vs co came h Stream) (port_bag vs co came h Build)))
 
 -- ---- what was told
-whole : (Q : List Entry → Type 0) (es : List Entry) → EachFront Q es → Q es
+whole : (Q : List CallEntry → Type 0) (es : List CallEntry) → EachFront Q es → Q es
 whole Q es h = h es [] (sym (append-nil es))
 
 -- the orders are those of the fronts of what was told
@@ -62,28 +62,28 @@ is_told vs co came s h sound closed =
     }
 
 -- ---- what was given
-working_follows : {P : Type 0} (bag : P → List Entry → List Item → Type 0) (amid : P → List Entry → Entry → List Item → Type 0) (takes : P → Port → ℕ → Type 0) (p : P) (s : Step) (es : List Entry) (given : List Item) → Working bag amid takes p s es given → bag p es given ⊎ (IsAmid (amid p) es given ⊎ IsEnded (bag p) es given)
+working_follows : {P : Type 0} (bag : P → List CallEntry → List Item → Type 0) (amid : P → List CallEntry → CallEntry → List Item → Type 0) (takes : P → Port → ℕ → Type 0) (p : P) (s : Step) (es : List CallEntry) (given : List Item) → Working bag amid takes p s es given → bag p es given ⊎ (IsAmid (amid p) es given ⊎ IsEnded (bag p) es given)
 working_follows bag amid takes p step.Poll es given w = inl w
 working_follows bag amid takes p (step.Make c) es given w = inr (inl (record { taken = w.0; entry = entry_of c; more = then_of c; parts = w.1; follows = w.2 }))
 working_follows bag amid takes p step.End es given w = inl w
 working_follows bag amid takes p step.Ended es given w = inr (inr (record { front = w.0; parts = w.1; follows = w.2 }))
 
-pub gave_so_far : {P : Type 0} (bag : P → List Entry → List Item → Type 0) (amid : P → List Entry → Entry → List Item → Type 0) (takes : P → Port → ℕ → Type 0) (t : Tasklet P) (came : List Arrival) (gave : List Item) → Keeps bag amid takes t came gave → IsTold (inputs_view t.inputs.items) (told_of t came)
+pub gave_so_far : {P : Type 0} (bag : P → List CallEntry → List Item → Type 0) (amid : P → List CallEntry → CallEntry → List Item → Type 0) (takes : P → Port → ℕ → Type 0) (t : Tasklet P) (came : List Arrival) (gave : List Item) → Keeps bag amid takes t came gave → IsTold (inputs_view t.inputs.items) (told_of t came)
     → SoFar (bag t.processor) (amid t.processor) (inputs_view t.inputs.items) (told_of t came) (gave ++ t.outbox.items)
 gave_so_far bag amid takes t came gave k is = record { told = is; follows = working_follows bag amid takes t.processor t.step (told_of t came) (gave ++ t.outbox.items) k.works }
 
 -- the whole of a tasklet that has ended, and another law of what it gave
-pub is_over : {P : Type 0} (stands bag marks : P → List Entry → List Item → Type 0) (amid : P → List Entry → Entry → List Item → Type 0) (takes : P → Port → ℕ → Type 0)
-    → ((p : P) (taken : List Entry) (given : List Item) → stands p taken given → bag p taken given)
-    → ((p : P) (taken : List Entry) (given : List Item) → stands p taken given → marks p taken given)
-    → ((p : P) (taken : List Entry) (given : List Item) → stands p taken given → Each NotDone (items_of taken) → Each NotDone given)
+pub is_over : {P : Type 0} (stands bag marks : P → List CallEntry → List Item → Type 0) (amid : P → List CallEntry → CallEntry → List Item → Type 0) (takes : P → Port → ℕ → Type 0)
+    → ((p : P) (taken : List CallEntry) (given : List Item) → stands p taken given → bag p taken given)
+    → ((p : P) (taken : List CallEntry) (given : List Item) → stands p taken given → marks p taken given)
+    → ((p : P) (taken : List CallEntry) (given : List Item) → stands p taken given → Each NotDone (items_of taken) → Each NotDone given)
     → (t : Tasklet P) (came : List Arrival) (gave : List Item) → Keeps stands amid takes t came gave → HasEnded t → IsTold (inputs_view t.inputs.items) (told_of t came)
     → (given : List Item) × (gave ≡ given ++ item.Done ∷ []) × (Over (bag t.processor) (inputs_view t.inputs.items) (outputs_view t.outputs.items) (told_of t came) given × marks t.processor (told_of t came) given)
 is_over stands bag marks amid takes bag_law marks_law open_law t came gave k e is =
     let vs : List InputView = inputs_view t.inputs.items in
     let os : List OutputView = outputs_view t.outputs.items in
     let n : ℕ = queue_count Stream vs in
-    let es : List Entry = told_of t came in
+    let es : List CallEntry = told_of t came in
     let works : Working stands amid takes t.processor step.Ended es (gave ++ t.outbox.items) = subst (λ (s : Step). Working stands amid takes t.processor s es (gave ++ t.outbox.items)) e.0 k.works in
     let same : gave ≡ works.0 ++ item.Done ∷ [] = sym (append-nil gave) ∙ ap (λ (xs : List Item). gave ++ xs) (sym e.1) ∙ works.1 in
     let gives : Each (Gave gave) os = subst (λ (xs : List Item). Giving gave xs os) e.1 k.gives_out in

@@ -21,7 +21,7 @@ use Rattle.jet_router.specs.Gives.{Gives}
 use Rattle.jet_router.specs.Deals.{IsStuck}
 use Rattle.jet_tasklet.specs.declared.output.Output.{Output}
 use Rattle.jet_tasklet.specs.Outputs.{OutputView, outputs_view, InGift, Gave, Giving, IsBlocked, SomeBlocked, HasDest, Waits, SomeWaits, AreOwed, Says}
-use Rattle.jet_tasklet.specs.Leaving.{IsStopped}
+use Rattle.jet_tasklet.specs.inner.Leaving.{IsStopped}
 use Rattle.jet_tasklet.specs.Turned.{OutputGoes}
 use Rattle.jet_tasklet.proofs.Giving.{is_all}
 use Rattle.std.proofs.lemmas.List.Sums.{sum_by-cons}

@@ -5,7 +5,7 @@ use Rattle.jet_items.specs.declared.item.Item.{Item}
 use Rattle.jet_items.specs.Order.{Each}
 use Rattle.jet_items.proofs.Orders.{Each-append, Each-front, Each-back, Each-more, EachPair-front, EachPair-across}
 use Rattle.jet_boxes.specs.declared.port.Port.{Port}
-use Rattle.jet_boxes.specs.Entry.{Entry, entry_items, items_of}
+use Rattle.jet_boxes.specs.Entry.{CallEntry, entry_items, items_of}
 use Rattle.jet_tasklet.specs.declared.arrival.Arrival.{Arrival}
 use Rattle.jet_tasklet.specs.Trace.{is_from, of_queue, asks, entries_after, entries}
 use Rattle.jet_tasklet.specs.InOrder.{InOrder, MayFollow}
@@ -26,18 +26,18 @@ of_queue-push port q came a =
 entries_after-push : (n : ℕ) (before came : List Arrival) (a : Arrival) → entries_after n before (came ++ a ∷ []) ≡ entries_after n before came ++ asks n (before ++ came) a
 entries_after-push n before [] a = append-nil (asks n before a) ∙ ap (λ (b : List Arrival). asks n b a) (sym (append-nil before))
 entries_after-push n before (c ∷ came) a =
-    let rest : List Entry = entries_after n (before ++ c ∷ []) came in
-    ap (λ (es : List Entry). asks n before c ++ es) (entries_after-push n (before ++ c ∷ []) came a ∙ ap (λ (b : List Arrival). rest ++ asks n b a) (append_assoc before (c ∷ []) came))
+    let rest : List CallEntry = entries_after n (before ++ c ∷ []) came in
+    ap (λ (es : List CallEntry). asks n before c ++ es) (entries_after-push n (before ++ c ∷ []) came a ∙ ap (λ (b : List Arrival). rest ++ asks n b a) (append_assoc before (c ∷ []) came))
     ∙ sym (append_assoc (asks n before c) rest (asks n (before ++ c ∷ came) a))
 
 pub entries-push : (n : ℕ) (came : List Arrival) (a : Arrival) → entries n (came ++ a ∷ []) ≡ entries n came ++ asks n came a
 entries-push n came a = entries_after-push n [] came a
 
-pub items_of-append : (es fs : List Entry) → items_of (es ++ fs) ≡ items_of es ++ items_of fs
+pub items_of-append : (es fs : List CallEntry) → items_of (es ++ fs) ≡ items_of es ++ items_of fs
 items_of-append es fs = flat_map-append entry_items es fs
 
 -- what holds of the items of each entry
-pub each_item : (P : Item → Type 0) (es : List Entry) → Each (λ e. Each P (entry_items e)) es → Each P (items_of es)
+pub each_item : (P : Item → Type 0) (es : List CallEntry) → Each (λ e. Each P (entry_items e)) es → Each P (items_of es)
 each_item P [] h = tt
 each_item P (e ∷ es) h = Each-append P (entry_items e) (items_of es) h.0 (each_item P es h.1)
 

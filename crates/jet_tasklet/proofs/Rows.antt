@@ -9,7 +9,7 @@ use Rattle.jet_ring.specs.Ring.{Ring, TxView}
 use Rattle.jet_conveyor.specs.Conveyor as conveyor
 use Rattle.jet_router.specs.Router as router
 use Rattle.jet_boxes.specs.declared.port.Port.{Port}
-use Rattle.jet_boxes.specs.Entry.{Entry}
+use Rattle.jet_boxes.specs.Entry.{CallEntry}
 use Rattle.jet_tasklet.specs.declared.arrival.Arrival.{Arrival}
 use Rattle.jet_tasklet.specs.declared.progress.Progress.{Progress}
 use Rattle.jet_tasklet.specs.declared.progress.Progress.TheVariants as progress
@@ -177,7 +177,7 @@ module _ {P : Type 0} (same : P → P → Type 0) where
   exact a b t s = record { inputs_same = s.inputs; txs_same = outs_same (outputs_view a.outputs.items) (outputs_view b.outputs.items) t.outputs (let e = s.sent in omega (arith, e)); outbox_same = s.outbox }
 
 -- ---- whatever the processor stands for
-module _ {P : Type 0} (stands : P → List Entry → List Item → Type 0) (amid : P → List Entry → Entry → List Item → Type 0) (takes : P → Port → ℕ → Type 0) (same : P → P → Type 0) where
+module _ {P : Type 0} (stands : P → List CallEntry → List Item → Type 0) (amid : P → List CallEntry → CallEntry → List Item → Type 0) (takes : P → Port → ℕ → Type 0) (same : P → P → Type 0) where
   -- turns in which nothing moved, one after the other
   rests_on : (a b c : Tasklet P) → Rests stands amid takes a b → Rests stands amid takes b c → Rests stands amid takes a c
   rests_on a b c f h = record { still = still_still same a b c f.still h.still; stays = stays_trans stands amid takes a b c f.stays h.stays }
@@ -227,7 +227,7 @@ module _ {P : Type 0} (stands : P → List Entry → List Item → Type 0) (amid
   pub went_trans : ((p q r : P) → same p q → same q r → same p r) → (t u v : Tasklet P) → Went stands amid takes same t u → Went stands amid takes same u v → Went stands amid takes same t v
   went_trans trans t u v h k = record { goes = goes_trans stands amid takes t u v h.goes k.goes; turned = turned_trans same trans t u v h.turned k.turned }
 
-module _ {P : Type 0} (stands : P → List Entry → List Item → Type 0) (amid : P → List Entry → Entry → List Item → Type 0) (takes : P → Port → ℕ → Type 0) where
+module _ {P : Type 0} (stands : P → List CallEntry → List Item → Type 0) (amid : P → List CallEntry → CallEntry → List Item → Type 0) (takes : P → Port → ℕ → Type 0) where
   rests_enter : (a b : Tasklet P) (gave : List Item) → IsStill a b → entered (gave ++ []) b ≡ entered gave a
   rests_enter a b gave s = ap (λ (xs : List Item). xs ++ b.outbox.items) (append-nil gave) ∙ ap (λ (xs : List Item). gave ++ xs) s.outbox
 

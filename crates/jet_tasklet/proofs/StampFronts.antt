@@ -10,7 +10,7 @@ use Rattle.jet_items.specs.Order.{Each}
 use Rattle.jet_items.specs.Values.{EventValue}
 use Rattle.jet_items.proofs.Orders.{Each-append}
 use Rattle.jet_boxes.specs.declared.port.Port.TheVariants.{Stream}
-use Rattle.jet_boxes.specs.Entry.{Entry}
+use Rattle.jet_boxes.specs.Entry.{CallEntry}
 use Rattle.jet_stages.specs.Stamp.{IsPlaced, StampMarks, event_from, queue_events}
 use Rattle.jet_stages.specs.declared.stamp.Stamp.{Stamp}
 use Rattle.jet_tasklet.specs.declared.arrival.Arrival.{Arrival}
@@ -40,13 +40,13 @@ no_mark lag grain [] t none has = cc
 no_mark lag grain (e ∷ es) t none has = cc
 
 -- what a stamp says of the marks that it gave
-abbrev pub GivenMarks : Stamp → List Entry → List Item → Type 0
+abbrev pub GivenMarks : Stamp → List CallEntry → List Item → Type 0
 GivenMarks p taken given = StampMarks (length p.markers.items) p.lag p.grain taken given
 
-abbrev pub GivenMarksAmid : Stamp → List Entry → Entry → List Item → Type 0
+abbrev pub GivenMarksAmid : Stamp → List CallEntry → CallEntry → List Item → Type 0
 GivenMarksAmid p taken entry given = GivenMarks p taken given
 
-module _ (t : Tasklet Stamp) (came : List Arrival) (gave : List Item) (k : Keeps GivenMarks GivenMarksAmid stamps.takes t came gave) (taken more : List Entry) (is : told t.step (queue_count Stream (inputs_view t.inputs.items)) came ≡ taken ++ more) where
+module _ (t : Tasklet Stamp) (came : List Arrival) (gave : List Item) (k : Keeps GivenMarks GivenMarksAmid stamps.takes t came gave) (taken more : List CallEntry) (is : told t.step (queue_count Stream (inputs_view t.inputs.items)) came ≡ taken ++ more) where
   abbrev vs : List InputView
   vs = inputs_view t.inputs.items
 

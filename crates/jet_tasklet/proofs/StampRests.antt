@@ -15,7 +15,7 @@ use Rattle.jet_items.specs.Values.{EventValue}
 use Rattle.jet_items.proofs.Orders.{Each-more}
 use Rattle.jet_boxes.specs.declared.port.Port.{Port}
 use Rattle.jet_boxes.specs.declared.port.Port.TheVariants.{Stream, Build}
-use Rattle.jet_boxes.specs.Entry.{Entry}
+use Rattle.jet_boxes.specs.Entry.{CallEntry}
 use Rattle.jet_router.specs.Router as router
 use Rattle.jet_coalescer.specs.Notes.{last_said}
 use Rattle.jet_stages.specs.Stamp.{IsLeastMark, IsLow, closes, idle_from, idle_in, is_closed, is_idle, queue_mark}
@@ -78,7 +78,7 @@ either_alike a b c d e f = cc
 after_close : (q n : ℕ) (before came : List Arrival) → list_any (closes q) (entries_after n before came) ≡ has_ended (of_queue Stream q came)
 after_close q n before [] = refl
 after_close q n before (a ∷ came) =
-    let rest : List Entry = entries_after n (before ++ a ∷ []) came in
+    let rest : List CallEntry = entries_after n (before ++ a ∷ []) came in
     let mine : List Item = cond (is_from Stream q a) (a.item ∷ []) [] in
     let own : list_any (closes q) (asks n before a) ≡ has_ended mine =
     list_any-append (closes q) (called a.port a.queue a.item) _ ∙ (either_alike (list_any (closes q) (called a.port a.queue a.item)) _ (has_ended mine) false (called_close q a.port a.queue a.item) (tells_close q _) ∙ or_none (has_ended mine)) in
@@ -127,7 +127,7 @@ called_idle q Build r item.Done = refl
 after_idle : (q n : ℕ) (before came : List Arrival) → flat_map (idle_from q) (entries_after n before came) ≡ flat_map idle_in (of_queue Stream q came)
 after_idle q n before [] = refl
 after_idle q n before (a ∷ came) =
-    let rest : List Entry = entries_after n (before ++ a ∷ []) came in
+    let rest : List CallEntry = entries_after n (before ++ a ∷ []) came in
     let mine : List Item = cond (is_from Stream q a) (a.item ∷ []) [] in
     flat_map-append (idle_from q) (asks n before a) rest
     ∙ ap (λ (l : List Bool). l ++ flat_map (idle_from q) rest) (flat_map-append (idle_from q) (called a.port a.queue a.item) _ ∙ ap (λ (l : List Bool). flat_map (idle_from q) (called a.port a.queue a.item) ++ l) (tells_idle q _)
@@ -136,7 +136,7 @@ after_idle q n before (a ∷ came) =
     ∙ sym (flat_map-append idle_in mine (of_queue Stream q came))
 
 idle_told : (q n : ℕ) (came : List Arrival) → is_idle q (told step.Poll n came) ≡ last_said (flat_map idle_in (of_queue Stream q came))
-idle_told q n came = ap (λ (es : List Entry). last_said (flat_map (idle_from q) es)) (append-nil (entries n came)) ∙ ap last_said (after_idle q n [] came)
+idle_told q n came = ap (λ (es : List CallEntry). last_said (flat_map (idle_from q) es)) (append-nil (entries n came)) ∙ ap last_said (after_idle q n [] came)
 
 -- ---- the least of the marks of some queues
 value_of : (o : Option ℤ) → (o ≡ None) ⊎ ((t : ℤ) × (o ≡ Some t))
@@ -233,15 +233,15 @@ neither : (a b : Bool) → a ≡ false → b ≡ false → (a || b) ≡ false
 neither a b h k = cc
 
 module _ (n : ℕ) (lag grain : ℤ) where
-  abbrev is_out : List Entry → ℕ → Bool
+  abbrev is_out : List CallEntry → ℕ → Bool
   is_out es q = is_closed q es || is_idle q es
 
-  to_least : (es : List Entry) → (l : Least (is_out es) (λ q. queue_mark lag grain q es) n) → IsLeastMark n lag grain es l.t
+  to_least : (es : List CallEntry) → (l : Least (is_out es) (λ q. queue_mark lag grain q es) n) → IsLeastMark n lag grain es l.t
   to_least es l =
       let counts = both_false (is_closed l.queue es) (is_idle l.queue es) l.counts in
       record { reached = λ q lt closed idle. l.reached q lt (neither (is_closed q es) (is_idle q es) closed idle); queue = l.queue; exists = l.exists; going = counts.0; awake = counts.1; has = l.has }
 
-  decide : (es : List Entry) → ((t : ℤ) × IsLeastMark n lag grain es t) ⊎ ((t : ℤ) → IsLeastMark n lag grain es t → ⊥)
+  decide : (es : List CallEntry) → ((t : ℤ) × IsLeastMark n lag grain es t) ⊎ ((t : ℤ) → IsLeastMark n lag grain es t → ⊥)
   decide es = elim (least_below (is_out es) (λ q. queue_mark lag grain q es) n) [
     | inl u ↦ inr (λ t l. let counts = both_false (is_closed u.queue es) (is_idle u.queue es) u.counts in not_some (queue_mark lag grain u.queue es) t u.none (l.reached u.queue u.exists counts.0 counts.1))
     | inr found ↦ elim found [
@@ -250,11 +250,11 @@ module _ (n : ℕ) (lag grain : ℤ) where
     ]
   ]
 
-  same : (es : List Entry) (t u : ℤ) → IsLeastMark n lag grain es t → IsLeastMark n lag grain es u → t ≤ℤ u
+  same : (es : List CallEntry) (t u : ℤ) → IsLeastMark n lag grain es t → IsLeastMark n lag grain es u → t ≤ℤ u
   same es t u a b = at_least (queue_mark lag grain b.queue es) t u (a.reached b.queue b.exists b.going b.awake) b.has
 
   -- where there is a least mark now, there is a watermark, and it is not below that
-  low_is : (es : List Entry) (t : ℤ) → IsLeastMark n lag grain es t → (u : ℤ) × IsLow n lag grain es u × (t ≤ℤ u)
+  low_is : (es : List CallEntry) (t : ℤ) → IsLeastMark n lag grain es t → (u : ℤ) × IsLow n lag grain es u × (t ≤ℤ u)
   low_is es t l =
       let here : Was (IsLeastMark n lag grain) decide same es t = record { front = es; back = []; parts = sym (append-nil es); has = l } in
       elim (greatest_was (IsLeastMark n lag grain) decide same es) [
@@ -282,7 +282,7 @@ module _ (t : Tasklet Stamp) (came : List Arrival) (gave : List Item) (k : Keeps
   abbrev grain : ℤ
   grain = t.processor.grain
 
-  abbrev all_told : List Entry
+  abbrev all_told : List CallEntry
   all_told = told step.Poll n came
 
   -- the last mark that each destination was sent is the watermark

@@ -13,7 +13,7 @@ use Rattle.jet_items.specs.declared.item.Item.TheVariants as item
 use Rattle.jet_items.proofs.Orders.{Each-append, Each-front, Each-back, EachPair-front}
 use Rattle.jet_boxes.specs.declared.port.Port.{Port}
 use Rattle.jet_boxes.specs.declared.port.Port.TheVariants.{Stream, Build}
-use Rattle.jet_boxes.specs.Entry.{Entry, Given, Told, Closed, Finish, entry_items, items_of}
+use Rattle.jet_boxes.specs.Entry.{CallEntry, Given, MarkTold, QueueClosed, Finish, entry_items, items_of}
 use Rattle.jet_coalescer.specs.declared.coalescer.Coalescer.{Coalescer}
 use Rattle.jet_stages.specs.Stamp.{event_from, queue_events, InPlace, StandsIn, IsNotLate, FromFiles}
 use Rattle.jet_tasklet.specs.declared.arrival.Arrival.{Arrival}
@@ -63,7 +63,7 @@ events_called q Build r item.Done = refl
 events_after : (q n : ℕ) (before came : List Arrival) → queue_events q (entries_after n before came) ≡ events_of (of_queue Stream q came)
 events_after q n before [] = refl
 events_after q n before (a ∷ came) =
-    let rest : List Entry = entries_after n (before ++ a ∷ []) came in
+    let rest : List CallEntry = entries_after n (before ++ a ∷ []) came in
     let mine : List Item = cond (is_from Stream q a) (a.item ∷ []) [] in
     flat_map-append (event_from q) (asks n before a) rest
     ∙ ap (λ (l : List EventValue). l ++ queue_events q rest) (flat_map-append (event_from q) (called a.port a.queue a.item) _ ∙ ap (λ (l : List EventValue). queue_events q (called a.port a.queue a.item) ++ l) (events_tells q _)
@@ -87,14 +87,14 @@ events_told q n s came =
 
 -- ---- the places of idle notes
 -- the items of a queue that the stamp is handed
-abbrev item_from : ℕ → Entry → List Item
+abbrev item_from : ℕ → CallEntry → List Item
 item_from q (Given Stream r x) = cond (r == q) (x ∷ []) []
 item_from q (Given Build r x) = []
-item_from q (Told t) = []
-item_from q (Closed port r) = []
+item_from q (MarkTold t) = []
+item_from q (QueueClosed port r) = []
 item_from q Finish = []
 
-abbrev queue_items : ℕ → List Entry → List Item
+abbrev queue_items : ℕ → List CallEntry → List Item
 queue_items q es = flat_map (item_from q) es
 
 items_tell : (q : ℕ) (o : Option ℤ) → queue_items q (tells o) ≡ []
@@ -130,7 +130,7 @@ called_items q Build r item.Done = refl
 items_after_data : (q n : ℕ) (before came : List Arrival) → queue_items q (entries_after n before came) ≡ data_of (of_queue Stream q came)
 items_after_data q n before [] = refl
 items_after_data q n before (a ∷ came) =
-    let rest : List Entry = entries_after n (before ++ a ∷ []) came in
+    let rest : List CallEntry = entries_after n (before ++ a ∷ []) came in
     let mine : List Item = cond (is_from Stream q a) (a.item ∷ []) [] in
     flat_map-append (item_from q) (asks n before a) rest
     ∙ ap (λ (l : List Item). l ++ queue_items q rest) (flat_map-append (item_from q) (called a.port a.queue a.item) _ ∙ ap (λ (l : List Item). queue_items q (called a.port a.queue a.item) ++ l) (items_tell q _)
@@ -157,14 +157,14 @@ picked_events : (b : Bool) (x : Item) → events_of (cond b (x ∷ []) []) ≡ c
 picked_events true x = append-nil (as_event x)
 picked_events false x = refl
 
-one_events : (q : ℕ) (e : Entry) → events_of (item_from q e) ≡ event_from q e
+one_events : (q : ℕ) (e : CallEntry) → events_of (item_from q e) ≡ event_from q e
 one_events q (Given Stream r x) = picked_events (r == q) x
 one_events q (Given Build r x) = refl
-one_events q (Told t) = refl
-one_events q (Closed port r) = refl
+one_events q (MarkTold t) = refl
+one_events q (QueueClosed port r) = refl
 one_events q Finish = refl
 
-events_items : (q : ℕ) (es : List Entry) → events_of (queue_items q es) ≡ queue_events q es
+events_items : (q : ℕ) (es : List CallEntry) → events_of (queue_items q es) ≡ queue_events q es
 events_items q [] = refl
 events_items q (e ∷ es) =
     flat_map-append as_event (item_from q e) (queue_items q es)
@@ -252,7 +252,7 @@ items_tells P marks (Some t) = (marks t, tt)
 items_after : (P : Item → Type 0) → ((t : ℤ) → P (item.Mark t)) → (n : ℕ) (before came : List Arrival) → Each (λ a. P a.item) came → Each P (items_of (entries_after n before came))
 items_after P marks n before [] h = tt
 items_after P marks n before (a ∷ came) h =
-    let rest : List Entry = entries_after n (before ++ a ∷ []) came in
+    let rest : List CallEntry = entries_after n (before ++ a ∷ []) came in
     let own : Each P (items_of (asks n before a)) = subst (Each P) (sym (flat_map-append entry_items (called a.port a.queue a.item) _))
     (Each-append P (items_of (called a.port a.queue a.item)) _ (items_called P a.port a.queue a.item h.0) (items_tells P marks _)) in
     subst (Each P) (sym (flat_map-append entry_items (asks n before a) rest)) (Each-append P (items_of (asks n before a)) (items_of rest) own (items_after P marks n (before ++ a ∷ []) came h.1))
@@ -341,7 +341,7 @@ from_files m lag grain behind vs co s came h r taken more is = record {
     files_told q true is_in = r.told q (within q is_in)
     files_told q false out = tt
 
-    whole : (q : ℕ) (front back : List Entry) → taken ≡ front ++ Given Stream q item.Idle ∷ back → data_of (of_queue Stream q came) ≡ queue_items q front ++ item.Idle ∷ (queue_items q back ++ queue_items q more)
+    whole : (q : ℕ) (front back : List CallEntry) → taken ≡ front ++ Given Stream q item.Idle ∷ back → data_of (of_queue Stream q came) ≡ queue_items q front ++ item.Idle ∷ (queue_items q back ++ queue_items q more)
     whole q front back at =
         let own : item_from q (Given Stream q item.Idle) ≡ item.Idle ∷ [] = ap (λ (b : Bool). cond b (item.Idle ∷ []) []) (from_own (record { port = Stream; queue = q; item = item.Idle })) in
         let split : queue_items q taken ≡ queue_items q front ++ item.Idle ∷ queue_items q back =
@@ -349,7 +349,7 @@ from_files m lag grain behind vs co s came h r taken more is = record {
         sym (items_told q n s came) ∙ (ap (queue_items q) is ∙ (flat_map-append (item_from q) taken more
         ∙ (ap (λ (l : List Item). l ++ queue_items q more) split ∙ append_assoc (queue_items q front) (item.Idle ∷ queue_items q back) (queue_items q more))))
 
-    places : (q : ℕ) (front back : List Entry) → taken ≡ front ++ Given Stream q item.Idle ∷ back → (b : Bool) → nat_lt q n ≡ b → InPlace (cond b (r.idles q) []) (queue_events q front) (queue_events q back)
+    places : (q : ℕ) (front back : List CallEntry) → taken ≡ front ++ Given Stream q item.Idle ∷ back → (b : Bool) → nat_lt q n ≡ b → InPlace (cond b (r.idles q) []) (queue_events q front) (queue_events q back)
     places q front back at true is_in =
         let p : Place (of_queue Stream q came) (queue_items q front) (queue_items q back ++ queue_items q more) = place (of_queue Stream q came) (queue_items q front) (queue_items q back ++ queue_items q more) (whole q front back at) in
         in_place (r.idles q) (events_of p.front) (events_of p.back) (queue_events q front) (queue_events q back) (queue_events q more)

@@ -7,7 +7,7 @@ use Rattle.jet_items.specs.Done.{is_done}
 use Rattle.jet_items.specs.Order.{Each}
 use Rattle.jet_items.proofs.Orders.{Each-append}
 use Rattle.jet_boxes.specs.declared.port.Port.{Port}
-use Rattle.jet_boxes.specs.Entry.{Entry, Given, Told, Closed, NotFinish, NotClosed, MayCome}
+use Rattle.jet_boxes.specs.Entry.{CallEntry, Given, MarkTold, QueueClosed, NotFinish, NotClosed, MayCome}
 use Rattle.jet_coalescer.specs.Low.{risen}
 use Rattle.jet_tasklet.specs.declared.arrival.Arrival.{Arrival}
 use Rattle.jet_tasklet.specs.Trace.{is_from, of_queue, has_ended, watermark, called, tells, asks, entries}
@@ -15,7 +15,7 @@ use Rattle.jet_tasklet.proofs.Pushing.{by_pushing, of_queue-push, entries-push}
 use Rattle.jet_tasklet.proofs.Tracing.{open_front, own_queue}
 use Rattle.jet_tasklet.proofs.Heard.{ended_push}
 
-each_asks : (P : Entry → Type 0) → ((t : ℤ) → P (Told t)) → (n : ℕ) (came : List Arrival) (a : Arrival) → Each P (called a.port a.queue a.item) → Each P (asks n came a)
+each_asks : (P : CallEntry → Type 0) → ((t : ℤ) → P (MarkTold t)) → (n : ℕ) (came : List Arrival) (a : Arrival) → Each P (called a.port a.queue a.item) → Each P (asks n came a)
 each_asks P marks n came a h = Each-append P (called a.port a.queue a.item) (tells (risen (watermark n came) (watermark n (came ++ a ∷ [])))) h (go (risen (watermark n came) (watermark n (came ++ a ∷ []))))
   where
     go : (o : Option ℤ) → Each P (tells o)
@@ -64,7 +64,7 @@ unclosed n port q came =
     subst (Each (NotClosed port q)) (sym (entries-push n xs a)) (Each-append (NotClosed port q) (entries n xs) (asks n xs a) (ih before) (each_asks (NotClosed port q) (λ t. tt) n xs a (called_unclosed port q a.port a.queue a.item never)))) came
 
 -- the first of what an item asks may come
-head_of : (takes : Port → ℕ → Type 0) (taken : List Entry) (port : Port) (q : ℕ) (x : Item) (o : Option ℤ) (e : Entry) (rest : List Entry) → takes port q → Each NotFinish taken → Each (NotClosed port q) taken → e ∷ rest ≡ called port q x ++ tells o → MayCome takes taken e
+head_of : (takes : Port → ℕ → Type 0) (taken : List CallEntry) (port : Port) (q : ℕ) (x : Item) (o : Option ℤ) (e : CallEntry) (rest : List CallEntry) → takes port q → Each NotFinish taken → Each (NotClosed port q) taken → e ∷ rest ≡ called port q x ++ tells o → MayCome takes taken e
 head_of takes taken port q (item.Event d) o e rest may going still is = let h : e ≡ Given port q (item.Event d) = cc in subst (MayCome takes taken) (sym h) (going, may, tt, still)
 head_of takes taken port q (item.Side d) o e rest may going still is = let h : e ≡ Given port q (item.Side d) = cc in subst (MayCome takes taken) (sym h) (going, may, tt, still)
 head_of takes taken port q (item.Frame d) o e rest may going still is = let h : e ≡ Given port q (item.Frame d) = cc in subst (MayCome takes taken) (sym h) (going, may, tt, still)
@@ -72,9 +72,9 @@ head_of takes taken port q (item.Row d) o e rest may going still is = let h : e 
 head_of takes taken port q (item.Late d) o e rest may going still is = let h : e ≡ Given port q (item.Late d) = cc in subst (MayCome takes taken) (sym h) (going, may, tt, still)
 head_of takes taken port q item.Idle o e rest may going still is = let h : e ≡ Given port q item.Idle = cc in subst (MayCome takes taken) (sym h) (going, may, tt, still)
 head_of takes taken port q (item.Mark m) None e rest may going still is = absurd (cc)
-head_of takes taken port q (item.Mark m) (Some t) e rest may going still is = let h : e ≡ Told t = cc in subst (MayCome takes taken) (sym h) going
-head_of takes taken port q item.Done o e rest may going still is = let h : e ≡ Closed port q = cc in subst (MayCome takes taken) (sym h) (going, may, still)
+head_of takes taken port q (item.Mark m) (Some t) e rest may going still is = let h : e ≡ MarkTold t = cc in subst (MayCome takes taken) (sym h) going
+head_of takes taken port q item.Done o e rest may going still is = let h : e ≡ QueueClosed port q = cc in subst (MayCome takes taken) (sym h) (going, may, still)
 
-pub head_may : (takes : Port → ℕ → Type 0) (n : ℕ) (came : List Arrival) (a : Arrival) (e : Entry) (rest : List Entry) → takes a.port a.queue → has_ended (of_queue a.port a.queue came) ≡ false → e ∷ rest ≡ asks n came a → MayCome takes (entries n came) e
+pub head_may : (takes : Port → ℕ → Type 0) (n : ℕ) (came : List Arrival) (a : Arrival) (e : CallEntry) (rest : List CallEntry) → takes a.port a.queue → has_ended (of_queue a.port a.queue came) ≡ false → e ∷ rest ≡ asks n came a → MayCome takes (entries n came) e
 head_may takes n came a e rest may still is =
     head_of takes (entries n came) a.port a.queue a.item (risen (watermark n came) (watermark n (came ++ a ∷ []))) e rest may (unfinished n came) (unclosed n a.port a.queue came still) is

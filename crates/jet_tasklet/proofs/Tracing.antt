@@ -11,7 +11,7 @@ use Rattle.jet_items.specs.Order.{Each, EachPair}
 use Rattle.jet_items.proofs.Orders.{Each-append, Each-front, Each-back, Each-more, EachPair-append, EachPair-front, EachPair-across}
 use Rattle.jet_boxes.specs.declared.port.Port.{Port}
 use Rattle.jet_boxes.specs.declared.port.Port.TheVariants.{Stream, Build}
-use Rattle.jet_boxes.specs.Entry.{Entry, Given, Told, Closed, Finish, entry_items, items_of, IsData}
+use Rattle.jet_boxes.specs.Entry.{CallEntry, Given, MarkTold, QueueClosed, Finish, entry_items, items_of, IsData}
 use Rattle.jet_coalescer.specs.Low.{low, risen, has_risen}
 use Rattle.jet_tasklet.specs.declared.arrival.Arrival.{Arrival}
 use Rattle.jet_tasklet.specs.Trace.{same_port, is_from, of_queue, has_ended, histories, heard, watermark, called, tells, asks, entries}
@@ -82,16 +82,16 @@ abbrev IsBuild : Arrival → Type 0
 IsBuild a = a.port ≡ Build
 
 -- data stands with a port, and a mark that was told bounds the stream queues, of which one had given something
-abbrev pub Holds : ℕ → List Arrival → Entry → Type 0
+abbrev pub Holds : ℕ → List Arrival → CallEntry → Type 0
 Holds n came (Given port q x) = IsData x
-Holds n came (Told t) = Bounds n t (lists_of came) × (Each IsBuild came → ⊥)
-Holds n came (Closed port q) = Unit {0}
+Holds n came (MarkTold t) = Bounds n t (lists_of came) × (Each IsBuild came → ⊥)
+Holds n came (QueueClosed port q) = Unit {0}
 Holds n came Finish = Unit {0}
 
-holds_push : (n : ℕ) (came : List Arrival) (a : Arrival) (e : Entry) → Holds n came e → Holds n (came ++ a ∷ []) e
+holds_push : (n : ℕ) (came : List Arrival) (a : Arrival) (e : CallEntry) → Holds n came e → Holds n (came ++ a ∷ []) e
 holds_push n came a (Given port q x) h = h
-holds_push n came a (Told t) h = (bounds_push n t came a h.0, λ all. h.1 (Each-front IsBuild came (a ∷ []) all))
-holds_push n came a (Closed port q) h = h
+holds_push n came a (MarkTold t) h = (bounds_push n t came a h.0, λ all. h.1 (Each-front IsBuild came (a ∷ []) all))
+holds_push n came a (QueueClosed port q) h = h
 holds_push n came a Finish h = h
 
 called_holds : (n : ℕ) (came : List Arrival) (port : Port) (q : ℕ) (x : Item) → Each (Holds n came) (called port q x)
@@ -104,7 +104,7 @@ called_holds n came port q item.Idle = (tt, tt)
 called_holds n came port q (item.Mark m) = tt
 called_holds n came port q item.Done = (tt, tt)
 
-tells_holds : (n : ℕ) (came : List Arrival) (o : Option ℤ) → ((t : ℤ) → o ≡ Some t → Holds n came (Told t)) → Each (Holds n came) (tells o)
+tells_holds : (n : ℕ) (came : List Arrival) (o : Option ℤ) → ((t : ℤ) → o ≡ Some t → Holds n came (MarkTold t)) → Each (Holds n came) (tells o)
 tells_holds n came None h = tt
 tells_holds n came (Some t) h = (h t refl, tt)
 
@@ -149,7 +149,7 @@ rises_by_stream n came a t h =
           absurd (cc)
     ]
 
-told_holds : (n : ℕ) (came : List Arrival) (a : Arrival) (t : ℤ) → risen (watermark n came) (watermark n (came ++ a ∷ [])) ≡ Some t → Holds n (came ++ a ∷ []) (Told t)
+told_holds : (n : ℕ) (came : List Arrival) (a : Arrival) (t : ℤ) → risen (watermark n came) (watermark n (came ++ a ∷ [])) ≡ Some t → Holds n (came ++ a ∷ []) (MarkTold t)
 told_holds n came a t h = (
   low_bounds n t (lists_of (came ++ a ∷ [])) (risen_is (watermark n came) (watermark n (came ++ a ∷ [])) t h).0,
   λ all. let last = Each-back IsBuild came (a ∷ []) all in stream_not_build (sym (rises_by_stream n came a t h) ∙ last.0),
@@ -215,7 +215,7 @@ all_build [] a is h = tt
 all_build (b ∷ came) a is h = (elim (port_cases b.port) [ inl k ↦ absurd (h.0.1 k is) | inr k ↦ k ], all_build came a is h.1)
 
 -- a mark that was told is in order with an item that comes after
-after_mark : (R : Item → Item → Type 0) → Ordering R → (queues : Port → ℕ) (came : List Arrival) (a : Arrival) (t : ℤ) → InOrder queues (came ++ a ∷ []) → EachPair R (of_queue Stream a.queue (came ++ a ∷ [])) → Holds (queues Stream) came (Told t) → R (item.Mark t) a.item
+after_mark : (R : Item → Item → Type 0) → Ordering R → (queues : Port → ℕ) (came : List Arrival) (a : Arrival) (t : ℤ) → InOrder queues (came ++ a ∷ []) → EachPair R (of_queue Stream a.queue (came ++ a ∷ [])) → Holds (queues Stream) came (MarkTold t) → R (item.Mark t) a.item
 after_mark R o queues came a t ord pairs h =
     elim (port_cases a.port) [
       | inl is ↦
@@ -272,15 +272,15 @@ asks_pairs R o n came a =
     subst (EachPair R) (sym (items_of-append (called a.port a.queue a.item) (tells u))) (called_pairs R o a.port a.queue a.item (items_of (tells u)) (tells_pairs R u))
 
 -- an entry before is in order with what an item asks
-across_asks : (R : Item → Item → Type 0) → Ordering R → (queues : Port → ℕ) (came : List Arrival) (a : Arrival) → InOrder queues (came ++ a ∷ []) → EachPair R (of_queue Stream a.queue (came ++ a ∷ [])) → (e : Entry) → Holds (queues Stream) came e → Each (λ x. Each (R x) (items_of (asks (queues Stream) came a))) (entry_items e)
+across_asks : (R : Item → Item → Type 0) → Ordering R → (queues : Port → ℕ) (came : List Arrival) (a : Arrival) → InOrder queues (came ++ a ∷ []) → EachPair R (of_queue Stream a.queue (came ++ a ∷ [])) → (e : CallEntry) → Holds (queues Stream) came e → Each (λ x. Each (R x) (items_of (asks (queues Stream) came a))) (entry_items e)
 across_asks R o queues came a ord pairs (Given port q x) h = (every R o x h (items_of (asks (queues Stream) came a)), tt)
-across_asks R o queues came a ord pairs (Told t) h = (
+across_asks R o queues came a ord pairs (MarkTold t) h = (
   asks_each (R (item.Mark t)) (queues Stream) came a (after_mark R o queues came a t ord pairs h) (λ u e.
       let r = risen_is (watermark (queues Stream) came) (watermark (queues Stream) (came ++ a ∷ [])) u e in
       o.rise t u (above_when (queues Stream) t u came a (watermark (queues Stream) came) refl h.0 r.0 r.1)),
   tt,
 )
-across_asks R o queues came a ord pairs (Closed port q) h = tt
+across_asks R o queues came a ord pairs (QueueClosed port q) h = tt
 across_asks R o queues came a ord pairs Finish h = tt
 
 abbrev Told_in_order : (Item → Item → Type 0) → (Port → ℕ) → List Arrival → Type 0
@@ -291,7 +291,7 @@ pairs_push R o queues came a ih ord pairs =
     let n : ℕ = queues Stream in
     let before : (q : ℕ) → EachPair R (of_queue Stream q came) = λ q. EachPair-front R (of_queue Stream q came) (cond (is_from Stream q a) (a.item ∷ []) []) (subst (EachPair R) (of_queue-push Stream q came a) (pairs q)) in
     let first : EachPair R (items_of (entries n came)) = ih (InOrder-front queues came (a ∷ []) ord) before in
-    let across : Each (λ x. Each (R x) (items_of (asks n came a))) (items_of (entries n came)) = each_item (λ (x : Item). Each (R x) (items_of (asks n came a))) (entries n came) (Each-more (Holds n came) (λ (e : Entry). Each (λ x. Each (R x) (items_of (asks n came a))) (entry_items e)) (λ e h. across_asks R o queues came a ord (pairs a.queue) e h) (entries n came) (entries_hold n came)) in
+    let across : Each (λ x. Each (R x) (items_of (asks n came a))) (items_of (entries n came)) = each_item (λ (x : Item). Each (R x) (items_of (asks n came a))) (entries n came) (Each-more (Holds n came) (λ (e : CallEntry). Each (λ x. Each (R x) (items_of (asks n came a))) (entry_items e)) (λ e h. across_asks R o queues came a ord (pairs a.queue) e h) (entries n came) (entries_hold n came)) in
     let all : EachPair R (items_of (entries n came) ++ items_of (asks n came a)) = EachPair-append R (items_of (entries n came)) (items_of (asks n came a)) first (asks_pairs R o n came a) across in
     subst (EachPair R) (sym (ap items_of (entries-push n came a) ∙ items_of-append (entries n came) (asks n came a))) all
 

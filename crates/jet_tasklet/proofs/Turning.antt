@@ -6,9 +6,9 @@ use Rattle.std.specs.declared.alloc.Global.{Global}
 use Rattle.jet_items.specs.declared.item.Item.{Item}
 use Rattle.jet_items.specs.declared.item.Item.TheVariants as item
 use Rattle.jet_items.specs.declared.no_memory.NoMemory.{NoMemory}
-use Rattle.jet_boxes.specs.Entry.{Entry, Finish}
+use Rattle.jet_boxes.specs.Entry.{CallEntry, Finish}
 use Rattle.jet_boxes.specs.Calls.{Call}
-use Rattle.jet_boxes.specs.Held.{Held}
+use Rattle.jet_boxes.specs.Held.{BoxView}
 use Rattle.jet_tasklet.specs.declared.input.Input.{Input}
 use Rattle.jet_tasklet.specs.declared.output.Output.{Output}
 use Rattle.jet_tasklet.specs.declared.step.Step.{Step}
@@ -18,7 +18,7 @@ use Rattle.jet_tasklet.specs.declared.step.Pending.TheVariants as call
 use Rattle.jet_tasklet.specs.declared.tasklet.Tasklet.{Tasklet}
 use Rattle.jet_tasklet.specs.Inputs.{InputView, inputs_view, received_count}
 use Rattle.jet_tasklet.specs.Outputs.{OutputView, outputs_view, SomeBlocked, sent_count, Says}
-use Rattle.jet_tasklet.specs.Leaving.{IsStopped}
+use Rattle.jet_tasklet.specs.inner.Leaving.{IsStopped}
 use Rattle.jet_tasklet.specs.Steps.{entry_of, next_of, finale}
 use Rattle.jet_tasklet.specs.Taking.{NoneToTake}
 use Rattle.jet_tasklet.specs.Turning.{is_free, HasEnded, Worked, TakesNone, BeginsFinish, IsFull, IsOwed, IsBlocked, IsStarved, all_ended, Moves, IsStill}
@@ -73,7 +73,7 @@ module _ {P : Type 0} where
       }
 
   -- a call was made, and has answered true or is to be made again
-  pub worked_make : {stands : P → List Entry → List Item → Type 0} {amid : P → List Entry → Entry → List Item → Type 0} {same : P → P → Type 0} {frugal : Bool} (t : Tasklet P) (p : P) (out : Held) (c : Pending) (r : Result Bool NoMemory) (s : Step) → t.step ≡ step.Make c → Call stands amid same frugal t.processor (entry_of c) t.outbox r p out → (s ≡ step.Make c) ⊎ (s ≡ next_of c) → Worked t (record { processor = p; inputs = t.inputs; outputs = t.outputs; coalescer = t.coalescer; step = s; outbox = out })
+  pub worked_make : {stands : P → List CallEntry → List Item → Type 0} {amid : P → List CallEntry → CallEntry → List Item → Type 0} {same : P → P → Type 0} {frugal : Bool} (t : Tasklet P) (p : P) (out : BoxView) (c : Pending) (r : Result Bool NoMemory) (s : Step) → t.step ≡ step.Make c → Call stands amid same frugal t.processor (entry_of c) t.outbox r p out → (s ≡ step.Make c) ⊎ (s ≡ next_of c) → Worked t (record { processor = p; inputs = t.inputs; outputs = t.outputs; coalescer = t.coalescer; step = s; outbox = out })
   worked_make t p out c r s is did next =
       let kept : finale (step.Make c) ≡ finale t.step = ap finale (sym is) in
       record {
@@ -92,15 +92,15 @@ module _ {P : Type 0} where
       }
 
   -- Done was put
-  pub worked_put : (t : Tasklet P) (out : Held) (s : Step) → t.step ≡ step.End → s ≡ step.Ended → out ≡ record { room = t.outbox.room; items = t.outbox.items ++ item.Done ∷ [] } → Worked t (record { processor = t.processor; inputs = t.inputs; outputs = t.outputs; coalescer = t.coalescer; step = s; outbox = out })
+  pub worked_put : (t : Tasklet P) (out : BoxView) (s : Step) → t.step ≡ step.End → s ≡ step.Ended → out ≡ record { room = t.outbox.room; items = t.outbox.items ++ item.Done ∷ [] } → Worked t (record { processor = t.processor; inputs = t.inputs; outputs = t.outputs; coalescer = t.coalescer; step = s; outbox = out })
   worked_put t out s is now put =
-      let items : out.items ≡ t.outbox.items ++ item.Done ∷ [] = ap (λ (h : Held). h.items) put in
+      let items : out.items ≡ t.outbox.items ++ item.Done ∷ [] = ap (λ (h : BoxView). h.items) put in
       let count : length out.items ≡ length (t.outbox.items ++ item.Done ∷ []) = ap (λ (xs : List Item). length xs) items in
       let sum = length-append t.outbox.items (item.Done ∷ []) in
       record {
         inputs = refl;
         outputs = refl;
-        room = ap (λ (h : Held). h.room) put;
+        room = ap (λ (h : BoxView). h.room) put;
         puts = (item.Done ∷ [], items);
         finale_kept = ap finale now ∙ ap finale (sym is);
         ended = λ e. inr (omega (arith, count, sum));
@@ -143,8 +143,8 @@ module _ {P : Type 0} where
   starves : (a b c d : Tasklet P) (ok : Bool) → a.outbox.items ≡ [] → 1 ≤ a.outbox.room → (a.step ≡ step.Ended → ⊥) → Worked a b → TakesNone b → BeginsFinish b c → Worked c d → (ok ≡ true → is_free d.step ≡ true) → (ok ≡ false → IsFull d.outbox) → c.outbox ≡ b.outbox → length d.outbox.items ≡ 0 → IsStarved d
   starves a b c d ok none roomy going first takes begins second free full box sent =
       let empty : length a.outbox.items ≡ 0 = ap (λ (xs : List Item). length xs) none in
-      let items : c.outbox.items ≡ b.outbox.items = ap (λ (h : Held). h.items) box in
-      let rooms : c.outbox.room ≡ b.outbox.room = ap (λ (h : Held). h.room) box in
+      let items : c.outbox.items ≡ b.outbox.items = ap (λ (h : BoxView). h.items) box in
+      let rooms : c.outbox.room ≡ b.outbox.room = ap (λ (h : BoxView). h.room) box in
       let more : length c.outbox.items ≤ length d.outbox.items = longer c.outbox.items d.outbox.items second.puts.0 second.puts.1 in
       let count : length c.outbox.items ≡ length b.outbox.items = ap (λ (xs : List Item). length xs) items in
       let room_b : b.outbox.room ≡ a.outbox.room = first.room in
@@ -183,7 +183,7 @@ module _ {P : Type 0} where
   pub idles : (o a b c d : Tasklet P) (ok : Bool) → (HasEnded o → ⊥) → a.step ≡ o.step → length o.outbox.items ≤ length a.outbox.items → 1 ≤ a.outbox.room → IsStopped a.outbox.items (outputs_view a.outputs.items) → Worked a b → TakesNone b → BeginsFinish b c → Worked c d → (ok ≡ true → is_free d.step ≡ true) → (ok ≡ false → IsFull d.outbox) → length d.outbox.items ≤ length a.outbox.items → IsBlocked d ⊎ IsStarved d
   idles o a b c d ok going step_is before roomy stops first takes begins second free full after =
       let kept = box_kept b c begins in
-      let items : c.outbox.items ≡ b.outbox.items = ap (λ (h : Held). h.items) kept.0 in
+      let items : c.outbox.items ≡ b.outbox.items = ap (λ (h : BoxView). h.items) kept.0 in
       let put : d.outbox.items ≡ a.outbox.items ++ (first.puts.0 ++ second.puts.0) = second.puts.1 ∙ (ap (λ (xs : List Item). xs ++ second.puts.0) (items ∙ first.puts.1) ∙ append_assoc a.outbox.items first.puts.0 second.puts.0) in
       let outs : outputs_view d.outputs.items ≡ outputs_view a.outputs.items = ap (λ (v : Vec Output Global). outputs_view v.items) (second.outputs ∙ (kept.1 ∙ first.outputs)) in
       elim (owed_unless a.outbox.items d.outbox.items (first.puts.0 ++ second.puts.0) (outputs_view a.outputs.items) (outputs_view d.outputs.items) stops put outs) [
@@ -218,13 +218,13 @@ module _ {P : Type 0} where
 
   items_on : (a b c d : Tasklet P) → Worked a b → BeginsFinish b c → Worked c d → (put : List Item) × (d.outbox.items ≡ a.outbox.items ++ put)
   items_on a b c d first begins second =
-      let items : c.outbox.items ≡ b.outbox.items = ap (λ (h : Held). h.items) (box_kept b c begins).0 in (
+      let items : c.outbox.items ≡ b.outbox.items = ap (λ (h : BoxView). h.items) (box_kept b c begins).0 in (
         first.puts.0 ++ second.puts.0,
         second.puts.1 ∙ (ap (λ (xs : List Item). xs ++ second.puts.0) (items ∙ first.puts.1) ∙ append_assoc a.outbox.items first.puts.0 second.puts.0),
       )
 
   pub rooms_on : (a b c d : Tasklet P) → Worked a b → BeginsFinish b c → Worked c d → d.outbox.room ≡ a.outbox.room
-  rooms_on a b c d first begins second = second.room ∙ (ap (λ (h : Held). h.room) (box_kept b c begins).0 ∙ first.room)
+  rooms_on a b c d first begins second = second.room ∙ (ap (λ (h : BoxView). h.room) (box_kept b c begins).0 ∙ first.room)
 
   -- a turn in which something was pushed, something was taken, or something was put
   pub moving : (o a b c d : Tasklet P) (p q s : Bool) → Says p (sent_count (outputs_view o.outputs.items)) (sent_count (outputs_view a.outputs.items)) → Says q (received_count (inputs_view a.inputs.items)) (received_count (inputs_view b.inputs.items)) → a.inputs ≡ o.inputs → b.outputs ≡ a.outputs → (p ≡ false → a.outbox.items ≡ o.outbox.items) → (q ≡ false → Worked a b) → BeginsFinish b c → Worked c d → (q ≡ false → s ≡ true → length a.outbox.items < length d.outbox.items) → ((p || q) || s) ≡ true → Moves o d
@@ -268,11 +268,11 @@ module _ {P : Type 0} where
     ]
   ]
 
-module _ {P : Type 0} (stands : P → List Entry → List Item → Type 0) (amid : P → List Entry → Entry → List Item → Type 0) (takes : P → Port → ℕ → Type 0) where
+module _ {P : Type 0} (stands : P → List CallEntry → List Item → Type 0) (amid : P → List CallEntry → CallEntry → List Item → Type 0) (takes : P → Port → ℕ → Type 0) where
   -- up to the begin of the finish
   pub begun_goes : (o a b c : Tasklet P) → Goes stands amid takes o a → Goes stands amid takes a b → Stays stands amid takes b c → BeginsFinish b c → Goes stands amid takes o c
   begun_goes o a b c gave took kept begun =
-      let items : c.outbox.items ≡ b.outbox.items = ap (λ (h : Held). h.items) (box_kept b c begun).0 in
+      let items : c.outbox.items ≡ b.outbox.items = ap (λ (h : BoxView). h.items) (box_kept b c begun).0 in
       let last : Goes stands amid takes b c = goes_stays stands amid takes b c kept ([], append-nil b.outbox.items ∙ sym items) in
       goes_trans stands amid takes o b c (goes_trans stands amid takes o a b gave took) last
 

@@ -2,7 +2,7 @@
 use Rattle.std.specs.Prelude.{ℕ, Bool, List, ◌++◌}
 use Rattle.jet_items.specs.declared.item.Item.{Item}
 use Rattle.jet_items.specs.Order.{Each, Sound, Closed as ClosedItems}
-use Rattle.jet_boxes.specs.Entry.{Entry}
+use Rattle.jet_boxes.specs.Entry.{CallEntry}
 use Rattle.jet_stages.specs.Stamp.{IsNoResult}
 use Rattle.jet_tasklet.specs.declared.arrival.Arrival.{Arrival}
 use Rattle.jet_tasklet.specs.declared.any.AnyTasklet.{AnyTasklet}
@@ -16,7 +16,7 @@ use Rattle.jet_tasklet.specs.Sending.{EachReceived, EachFront}
 use Rattle.jet_tasklet.specs.StampInOrder.{AreFromFiles}
 
 -- all that the processor is told of the items that came
-abbrev pub any_told_of : AnyTasklet → List Arrival → List Entry
+abbrev pub any_told_of : AnyTasklet → List Arrival → List CallEntry
 any_told_of (any.Stamp t) came = told_of t came
 any_told_of (any.Map t) came = told_of t came
 any_told_of (any.Filter t) came = told_of t came

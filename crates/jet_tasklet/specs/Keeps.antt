@@ -5,7 +5,7 @@ use Rattle.jet_items.specs.declared.item.Item.{Item}
 use Rattle.jet_items.specs.Order.{Each}
 use Rattle.jet_boxes.specs.declared.port.Port.{Port}
 use Rattle.jet_boxes.specs.declared.port.Port.TheVariants.{Stream, Build}
-use Rattle.jet_boxes.specs.Entry.{Entry}
+use Rattle.jet_boxes.specs.Entry.{CallEntry}
 use Rattle.jet_coalescer.specs.declared.coalescer.Coalescer.{Coalescer}
 use Rattle.jet_coalescer.specs.Low.{HasHeard}
 use Rattle.jet_router.specs.Router as router
@@ -51,12 +51,12 @@ IsOver step.End inputs = (port : Port) → all_done port inputs ≡ true
 IsOver step.Ended inputs = (port : Port) → all_done port inputs ≡ true
 
 -- all that the processor is told once these items came and this is done next
-abbrev pub told : Step → ℕ → List Arrival → List Entry
+abbrev pub told : Step → ℕ → List Arrival → List CallEntry
 told next n came = entries n came ++ finale next
 
 -- the tasklet took these items, its processor stands for what follows from them, each output was given these items whole,
 -- of those that the processor gave, and some output has not had the front of the outbox
-pub record Keeps {P : Type 0} (stands : P → List Entry → List Item → Type 0) (amid : P → List Entry → Entry → List Item → Type 0) (takes : P → Port → ℕ → Type 0) (t : Tasklet P) (came : List Arrival) (gave : List Item) : Type 0 where
+pub record Keeps {P : Type 0} (stands : P → List CallEntry → List Item → Type 0) (amid : P → List CallEntry → CallEntry → List Item → Type 0) (takes : P → Port → ℕ → Type 0) (t : Tasklet P) (came : List Arrival) (gave : List Item) : Type 0 where
   pub takes_in : Came (inputs_view t.inputs.items) t.coalescer came
   pub gives_out : Giving gave t.outbox.items (outputs_view t.outputs.items)
   pub works : Working stands amid takes t.processor t.step (told t.step (queue_count Stream (inputs_view t.inputs.items)) came) (gave ++ t.outbox.items)
@@ -66,7 +66,7 @@ pub record Keeps {P : Type 0} (stands : P → List Entry → List Item → Type 
   pub owed : AreOwed (outputs_view t.outputs.items)
 
 -- there are items that came and that were given of which the tasklet keeps this
-pub record IsLawful {P : Type 0} (stands : P → List Entry → List Item → Type 0) (amid : P → List Entry → Entry → List Item → Type 0) (takes : P → Port → ℕ → Type 0) (t : Tasklet P) : Type 0 where
+pub record IsLawful {P : Type 0} (stands : P → List CallEntry → List Item → Type 0) (amid : P → List CallEntry → CallEntry → List Item → Type 0) (takes : P → Port → ℕ → Type 0) (t : Tasklet P) : Type 0 where
   pub came : List Arrival
   pub gave : List Item
   pub keeps : Keeps stands amid takes t came gave
@@ -76,12 +76,12 @@ abbrev pub entered : {P : Type 0} → List Item → Tasklet P → List Item
 entered gave t = gave ++ t.outbox.items
 
 -- whatever came and was given before, nothing came and nothing was given since, and the tasklet keeps the same
-pub record Stays {P : Type 0} (stands : P → List Entry → List Item → Type 0) (amid : P → List Entry → Entry → List Item → Type 0) (takes : P → Port → ℕ → Type 0) (a b : Tasklet P) : Type 0 where
+pub record Stays {P : Type 0} (stands : P → List CallEntry → List Item → Type 0) (amid : P → List CallEntry → CallEntry → List Item → Type 0) (takes : P → Port → ℕ → Type 0) (a b : Tasklet P) : Type 0 where
   pub stays : (came : List Arrival) (gave : List Item) → Keeps stands amid takes a came gave → Keeps stands amid takes b came gave
 
 -- whatever came and was given before, more may have come and been given since, and the tasklet keeps the same: all that
 -- had entered its outbox was given or still waits there, in its order
-pub record Goes {P : Type 0} (stands : P → List Entry → List Item → Type 0) (amid : P → List Entry → Entry → List Item → Type 0) (takes : P → Port → ℕ → Type 0) (a b : Tasklet P) : Type 0 where
+pub record Goes {P : Type 0} (stands : P → List CallEntry → List Item → Type 0) (amid : P → List CallEntry → CallEntry → List Item → Type 0) (takes : P → Port → ℕ → Type 0) (a b : Tasklet P) : Type 0 where
   pub goes : (came : List Arrival) (gave : List Item) → Keeps stands amid takes a came gave → (more : List Arrival) × (given : List Item) × Keeps stands amid takes b (came ++ more) (gave ++ given) × IsPrefix (entered gave a) (entered (gave ++ given) b)
 
 -- nothing was received of these queues, and none is done

@@ -2,7 +2,7 @@
 use Rattle.std.specs.Prelude.{ℕ, Bool, List}
 use Rattle.jet_items.specs.declared.item.Item.{Item}
 use Rattle.jet_boxes.specs.declared.port.Port.{Port}
-use Rattle.jet_boxes.specs.Entry.{Entry}
+use Rattle.jet_boxes.specs.Entry.{CallEntry}
 use Rattle.jet_stages.specs.declared.stamp.Stamp.{Stamp}
 use Rattle.jet_stages.specs.declared.map.MapP.{MapP}
 use Rattle.jet_stages.specs.declared.filter.FilterP.{FilterP}
@@ -26,17 +26,17 @@ use Rattle.jet_tasklet.specs.declared.output.Output.{Output}
 -- what a kind of processor says of itself: what it stands for between two calls and in the middle of one, from which queues it takes, when two of it have the same settings, whether it never wants memory,
 -- what its data and its marks follow from, and what it asks for so that what it gives is in order
 pub record Kind (P : Type 0) : Type 1 where
-  pub stands : P → List Entry → List Item → Type 0
-  pub amid : P → List Entry → Entry → List Item → Type 0
+  pub stands : P → List CallEntry → List Item → Type 0
+  pub amid : P → List CallEntry → CallEntry → List Item → Type 0
   pub takes : P → Port → ℕ → Type 0
   pub same : P → P → Type 0
   pub frugal : Bool
-  pub bag : P → List Entry → List Item → Type 0
-  pub bag_amid : P → List Entry → Entry → List Item → Type 0
-  pub marks : P → List Entry → List Item → Type 0
-  pub marks_amid : P → List Entry → Entry → List Item → Type 0
-  pub sound_if : P → (ℕ → ℕ → Bool) → List Entry → Type 0
-  pub closed_if : P → List Entry → Type 0
+  pub bag : P → List CallEntry → List Item → Type 0
+  pub bag_amid : P → List CallEntry → CallEntry → List Item → Type 0
+  pub marks : P → List CallEntry → List Item → Type 0
+  pub marks_amid : P → List CallEntry → CallEntry → List Item → Type 0
+  pub sound_if : P → (ℕ → ℕ → Bool) → List CallEntry → Type 0
+  pub closed_if : P → List CallEntry → Type 0
 
 -- the seven kinds
 abbrev pub stamps : Kind Stamp

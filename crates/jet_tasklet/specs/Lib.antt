@@ -2,19 +2,16 @@ pub mod Any
 pub mod AnyOrder
 pub mod AnyOver
 pub mod Over
-pub mod Chain
 pub mod DoneLast
 pub mod InOrder
 pub mod Inputs
 pub mod JoinWaits
 pub mod Keeps
 pub mod Kinds
-pub mod Leaving
 pub mod Lending
 pub mod MarksGiven
 pub mod Meeting
 pub mod Merging
-pub mod Noting
 pub mod Outputs
 pub mod Sending
 pub mod Steps
@@ -26,3 +23,4 @@ pub mod Turns
 pub mod Views
 pub mod Wanting
 pub mod StampInOrder
+pub mod inner

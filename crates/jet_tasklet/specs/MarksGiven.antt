@@ -7,7 +7,7 @@ use Rattle.jet_items.specs.declared.item.Item.{Item}
 use Rattle.jet_items.specs.Kinds.{events_of, marks_of}
 use Rattle.jet_items.specs.Marks.{mark_of}
 use Rattle.jet_items.specs.Values.{EventValue}
-use Rattle.jet_boxes.specs.Entry.{Entry, items_of}
+use Rattle.jet_boxes.specs.Entry.{CallEntry, items_of}
 use Rattle.jet_boxes.specs.declared.port.Port.TheVariants.{Stream}
 use Rattle.jet_coalescer.specs.Low.{least}
 use Rattle.jet_coalescer.specs.Notes.{last_said}
@@ -22,8 +22,8 @@ use Rattle.jet_tasklet.specs.Inputs.{InputView, inputs_view, received, dones, qu
 use Rattle.jet_tasklet.specs.Kinds.{OfKind}
 
 -- what a processor gives for what it takes has the same marks, in their order
-abbrev pub PassMarks : (List Entry → List Item → Type 0) → Type 0
-PassMarks marks = (taken : List Entry) (given : List Item) → marks taken given → marks_of given ≡ marks_of (items_of taken)
+abbrev pub PassMarks : (List CallEntry → List Item → Type 0) → Type 0
+PassMarks marks = (taken : List CallEntry) (given : List Item) → marks taken given → marks_of given ≡ marks_of (items_of taken)
 
 -- a stream queue received the mark
 pub record IsReceived (inputs : List InputView) (t : ℤ) : Type 0 where
@@ -114,7 +114,7 @@ AnyAllReached (any.Join t) s = AllReached (inputs_view t.inputs.items) s
 AnyAllReached (any.Frame t) s = AllReached (inputs_view t.inputs.items) s
 AnyAllReached (any.Combine t) s = AllReached (inputs_view t.inputs.items) s
 
-abbrev pub IsLowIf : ℕ → ℤ → ℤ → List Entry → Option ℤ → Type 0
+abbrev pub IsLowIf : ℕ → ℤ → ℤ → List CallEntry → Option ℤ → Type 0
 IsLowIf n lag grain taken None = ⊥
 IsLowIf n lag grain taken (Some t) = IsLow n lag grain taken t
 

@@ -5,7 +5,7 @@ use Rattle.jet_ring.specs.Ring.{Ring, TxView, RxView}
 use Rattle.jet_conveyor.specs.Conveyor as conveyor
 use Rattle.jet_router.specs.Router as router
 use Rattle.jet_boxes.specs.declared.port.Port.{Port}
-use Rattle.jet_boxes.specs.Entry.{Entry}
+use Rattle.jet_boxes.specs.Entry.{CallEntry}
 use Rattle.jet_tasklet.specs.declared.arrival.Arrival.{Arrival}
 use Rattle.jet_tasklet.specs.declared.tasklet.Tasklet.{Tasklet}
 use Rattle.jet_tasklet.specs.declared.any.AnyTasklet.{AnyTasklet}
@@ -68,13 +68,13 @@ pub record InputMet (before after : List InputView) (i q : ℕ) : Type 0 where
   pub met : conveyor.Refreshed was.queues now.queues q
 
 -- a destination of a tasklet met: nothing came or was given, and nothing but that end changed
-pub record GiverMet {P : Type 0} (stands : P → List Entry → List Item → Type 0) (amid : P → List Entry → Entry → List Item → Type 0) (takes : P → Port → ℕ → Type 0) (a b : Tasklet P) (o d : ℕ) : Type 0 where
+pub record GiverMet {P : Type 0} (stands : P → List CallEntry → List Item → Type 0) (amid : P → List CallEntry → CallEntry → List Item → Type 0) (takes : P → Port → ℕ → Type 0) (a b : Tasklet P) (o d : ℕ) : Type 0 where
   pub keeps : Stays stands amid takes a b
   pub outputs : OutputMet (outputs_view a.outputs.items) (outputs_view b.outputs.items) o d
   pub rest : b ≡ record a { outputs = b.outputs }
 
 -- a queue of a tasklet met
-pub record TakerMet {P : Type 0} (stands : P → List Entry → List Item → Type 0) (amid : P → List Entry → Entry → List Item → Type 0) (takes : P → Port → ℕ → Type 0) (a b : Tasklet P) (i q : ℕ) : Type 0 where
+pub record TakerMet {P : Type 0} (stands : P → List CallEntry → List Item → Type 0) (amid : P → List CallEntry → CallEntry → List Item → Type 0) (takes : P → Port → ℕ → Type 0) (a b : Tasklet P) (i q : ℕ) : Type 0 where
   pub keeps : Stays stands amid takes a b
   pub inputs : InputMet (inputs_view a.inputs.items) (inputs_view b.inputs.items) i q
   pub rest : b ≡ record a { inputs = b.inputs }

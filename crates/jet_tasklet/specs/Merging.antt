@@ -6,7 +6,7 @@ use Rattle.jet_items.specs.declared.item.Item.TheVariants as item
 use Rattle.jet_items.specs.Bag.{all_of}
 use Rattle.jet_items.specs.Kinds.{data_of}
 use Rattle.jet_boxes.specs.declared.port.Port.{Port}
-use Rattle.jet_boxes.specs.Entry.{Entry, Given, Told, Closed, Finish}
+use Rattle.jet_boxes.specs.Entry.{CallEntry, Given, MarkTold, QueueClosed, Finish}
 use Rattle.jet_tasklet.specs.Inputs.{InputView, received, queue_count}
 
 -- the data that the queues of a port received, queue by queue
@@ -14,11 +14,11 @@ abbrev pub data_received : Port → List InputView → List Item
 data_received port inputs = all_of (queue_count port inputs) (λ q. data_of (get_or (received port inputs) q []))
 
 -- the last mark told, if there is one
-abbrev pub told_or : Option ℤ → Entry → Option ℤ
+abbrev pub told_or : Option ℤ → CallEntry → Option ℤ
 told_or last (Given port q x) = last
-told_or last (Told t) = Some t
-told_or last (Closed port q) = last
+told_or last (MarkTold t) = Some t
+told_or last (QueueClosed port q) = last
 told_or last Finish = last
 
-abbrev pub last_told : List Entry → Option ℤ
+abbrev pub last_told : List CallEntry → Option ℤ
 last_told entries = fold told_or None entries

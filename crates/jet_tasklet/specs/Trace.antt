@@ -7,7 +7,7 @@ use Rattle.jet_items.specs.Done.{is_done}
 use Rattle.jet_items.specs.Kinds.{marks_of}
 use Rattle.jet_boxes.specs.declared.port.Port.{Port}
 use Rattle.jet_boxes.specs.declared.port.Port.TheVariants.{Stream, Build}
-use Rattle.jet_boxes.specs.Entry.{Entry, Given, Told, Closed}
+use Rattle.jet_boxes.specs.Entry.{CallEntry, Given, MarkTold, QueueClosed}
 use Rattle.jet_coalescer.specs.Low.{History, low, risen}
 use Rattle.jet_tasklet.specs.declared.arrival.Arrival.{Arrival}
 
@@ -46,7 +46,7 @@ abbrev pub watermark : ℕ → List Arrival → Option ℤ
 watermark n came = low (heard n came)
 
 -- data is handed on with its port and queue, a Done closes its queue, and a mark counts for the watermark alone
-abbrev pub called : Port → ℕ → Item → List Entry
+abbrev pub called : Port → ℕ → Item → List CallEntry
 called port q (item.Event e) = Given port q (item.Event e) ∷ []
 called port q (item.Side s) = Given port q (item.Side s) ∷ []
 called port q (item.Frame f) = Given port q (item.Frame f) ∷ []
@@ -54,20 +54,20 @@ called port q (item.Row r) = Given port q (item.Row r) ∷ []
 called port q (item.Late l) = Given port q (item.Late l) ∷ []
 called port q item.Idle = Given port q item.Idle ∷ []
 called port q (item.Mark m) = []
-called port q item.Done = Closed port q ∷ []
+called port q item.Done = QueueClosed port q ∷ []
 
-abbrev pub tells : Option ℤ → List Entry
+abbrev pub tells : Option ℤ → List CallEntry
 tells None = []
-tells (Some t) = Told t ∷ []
+tells (Some t) = MarkTold t ∷ []
 
 -- what an item asks of the processor, after those that came before: its own call, and then the watermark, where that rose
-abbrev pub asks : ℕ → List Arrival → Arrival → List Entry
+abbrev pub asks : ℕ → List Arrival → Arrival → List CallEntry
 asks n before a = called a.port a.queue a.item ++ tells (risen (watermark n before) (watermark n (before ++ a ∷ [])))
 
-abbrev pub entries_after : ℕ → List Arrival → List Arrival → List Entry
+abbrev pub entries_after : ℕ → List Arrival → List Arrival → List CallEntry
 entries_after n before [] = []
 entries_after n before (a ∷ came) = asks n before a ++ entries_after n (before ++ a ∷ []) came
 
 -- all that a processor with n stream queues is told of the items that came, but for the finish
-abbrev pub entries : ℕ → List Arrival → List Entry
+abbrev pub entries : ℕ → List Arrival → List CallEntry
 entries n came = entries_after n [] came

@@ -1,7 +1,7 @@
 -- How a tasklet stands in a turn, and why it may have nothing to do.
 use Rattle.std.specs.Prelude.{◌≡◌, ℕ, ◌<◌, ◌&&◌, ◌⊎◌, Bool, true, false, List, [], ◌∷◌, ◌++◌, length}
 use Rattle.jet_items.specs.declared.item.Item.{Item}
-use Rattle.jet_boxes.specs.Held.{Held}
+use Rattle.jet_boxes.specs.Held.{BoxView}
 use Rattle.jet_boxes.specs.declared.port.Port.TheVariants.{Stream, Build}
 use Rattle.jet_tasklet.specs.Inputs.{InputView, inputs_view, all_done, received_count}
 use Rattle.jet_tasklet.specs.Outputs.{OutputView, outputs_view, SomeBlocked, sent_count}
@@ -41,7 +41,7 @@ HasEnded t = (t.step ≡ step.Ended) × (t.outbox.items ≡ [])
 abbrev pub all_ended : List InputView → Bool
 all_ended inputs = all_done Build inputs && all_done Stream inputs
 
-abbrev pub IsFull : Held → Type 0
+abbrev pub IsFull : BoxView → Type 0
 IsFull held = length held.items ≡ held.room
 
 -- the front of the outbox is owed to a destination that has no known free slot

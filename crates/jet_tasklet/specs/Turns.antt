@@ -3,7 +3,7 @@ use Rattle.std.specs.Prelude.{◌≡◌, ◌⊎◌, ℕ, ◌+◌, ◌<◌, List,
 use mathlib.Core.List.{IsPrefix}
 use Rattle.jet_items.specs.declared.item.Item.{Item}
 use Rattle.jet_boxes.specs.declared.port.Port.{Port}
-use Rattle.jet_boxes.specs.Entry.{Entry}
+use Rattle.jet_boxes.specs.Entry.{CallEntry}
 use Rattle.jet_ring.specs.Ring.{TxView}
 use Rattle.jet_router.specs.Router as router
 use Rattle.jet_tasklet.specs.declared.arrival.Arrival.{Arrival}
@@ -20,17 +20,17 @@ use Rattle.jet_tasklet.specs.Any.{AnyKeeps, AnyStays, AnyGoes, AnyTurned, AnyMov
 use Rattle.jet_tasklet.specs.Views.{ins, outs, waiting}
 
 -- the tasklet has gone on, and its ends stay those of their rings
-pub record Went {P : Type 0} (stands : P → List Entry → List Item → Type 0) (amid : P → List Entry → Entry → List Item → Type 0) (takes : P → Port → ℕ → Type 0) (same : P → P → Type 0) (a b : Tasklet P) : Type 0 where
+pub record Went {P : Type 0} (stands : P → List CallEntry → List Item → Type 0) (amid : P → List CallEntry → CallEntry → List Item → Type 0) (takes : P → Port → ℕ → Type 0) (same : P → P → Type 0) (a b : Tasklet P) : Type 0 where
   pub goes : Goes stands amid takes a b
   pub turned : Turned same a b
 
 -- nothing moved, nothing came and nothing was given
-pub record Rests {P : Type 0} (stands : P → List Entry → List Item → Type 0) (amid : P → List Entry → Entry → List Item → Type 0) (takes : P → Port → ℕ → Type 0) (a b : Tasklet P) : Type 0 where
+pub record Rests {P : Type 0} (stands : P → List CallEntry → List Item → Type 0) (amid : P → List CallEntry → CallEntry → List Item → Type 0) (takes : P → Port → ℕ → Type 0) (a b : Tasklet P) : Type 0 where
   pub still : IsStill a b
   pub stays : Stays stands amid takes a b
 
 -- Moved: something moved. Idle: the tasklet rests, blocked or starved. Done: it rests, and has ended
-abbrev pub Said : {P : Type 0} → (P → List Entry → List Item → Type 0) → (P → List Entry → Entry → List Item → Type 0) → (P → Port → ℕ → Type 0) → Progress → Tasklet P → Tasklet P → Type 0
+abbrev pub Said : {P : Type 0} → (P → List CallEntry → List Item → Type 0) → (P → List CallEntry → CallEntry → List Item → Type 0) → (P → Port → ℕ → Type 0) → Progress → Tasklet P → Tasklet P → Type 0
 Said stands amid takes progress.Moved a b = Moves a b
 Said stands amid takes progress.Idle a b = Rests stands amid takes a b × (IsBlocked b ⊎ IsStarved b)
 Said stands amid takes progress.Done a b = Rests stands amid takes a b × HasEnded b
@@ -63,7 +63,7 @@ Counts progress.Done before after = after ≡ before
 
 -- after turns with this answer in all, whatever came and was given before: what came and was given since, the tasklet keeps
 -- it, all that had entered the outbox still counts, and the count of moves says what the answer does
-pub record Counted {P : Type 0} (stands : P → List Entry → List Item → Type 0) (amid : P → List Entry → Entry → List Item → Type 0) (takes : P → Port → ℕ → Type 0) (says : Progress) (a b : Tasklet P) (came : List Arrival) (gave : List Item) : Type 0 where
+pub record Counted {P : Type 0} (stands : P → List CallEntry → List Item → Type 0) (amid : P → List CallEntry → CallEntry → List Item → Type 0) (takes : P → Port → ℕ → Type 0) (says : Progress) (a b : Tasklet P) (came : List Arrival) (gave : List Item) : Type 0 where
   pub more : List Arrival
   pub given : List Item
   pub keeps : Keeps stands amid takes b (came ++ more) (gave ++ given)

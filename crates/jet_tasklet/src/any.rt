@@ -68,7 +68,7 @@ impl AnyTasklet {
     }
 
     /// A meeting of an end that the tasklet has lent out leaves what came to it, what it gave and what it keeps.
-    pub fn keeps_at_meetings(&self)
+    pub fn law_keeps_at_meetings(&self)
         ensures input { (came : List Arrival) → (gave : List Item) → (n q : ℕ) → (was w : Conveyor) → AnyKeeps self.now came gave
             → slice_get (map (λ i. i.conveyor) (inputs_of self.now)) n ≡ Some was → conveyors.Refreshed (conveyors.view was) (conveyors.view w) q
             → AnyKeeps (any_with_input self.now n was w) came gave }

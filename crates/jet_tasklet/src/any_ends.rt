@@ -24,24 +24,24 @@ impl AnyTasklet {
     ghost use Rattle.jet_tasklet.specs.Trace.{histories};
 
     /// The laws of its processor hold of all that it was told, less what is pending.
-    pub fn keeps_laws(&self)
+    pub fn law_keeps(&self)
         ensures bag { (came : List Arrival) → (gave : List Item) → AnyKeeps self.now came gave → AnyKeepsBag self.now came gave }
         ensures marks { (came : List Arrival) → (gave : List Item) → AnyKeeps self.now came gave → AnyKeepsMarks self.now came gave }
     {
         match self {
-            AnyTasklet::Stamp(tasklet) => tasklet.keeps_laws(),
-            AnyTasklet::Map(tasklet) => tasklet.keeps_laws(),
-            AnyTasklet::Filter(tasklet) => tasklet.keeps_laws(),
-            AnyTasklet::Flat(tasklet) => tasklet.keeps_laws(),
-            AnyTasklet::Join(tasklet) => tasklet.keeps_laws(),
-            AnyTasklet::Frame(tasklet) => tasklet.keeps_laws(),
-            AnyTasklet::Combine(tasklet) => tasklet.keeps_laws(),
+            AnyTasklet::Stamp(tasklet) => tasklet.law_keeps(),
+            AnyTasklet::Map(tasklet) => tasklet.law_keeps(),
+            AnyTasklet::Filter(tasklet) => tasklet.law_keeps(),
+            AnyTasklet::Flat(tasklet) => tasklet.law_keeps(),
+            AnyTasklet::Join(tasklet) => tasklet.law_keeps(),
+            AnyTasklet::Frame(tasklet) => tasklet.law_keeps(),
+            AnyTasklet::Combine(tasklet) => tasklet.law_keeps(),
         }
     }
 
     /// The data that its processor was told is that which all queues received, and while a stream queue is not done the last
     /// mark told or pending is the least of the greatest marks of those queues.
-    pub fn takes_from_all(&self)
+    pub fn law_takes_from_all(&self)
         ensures bag { (came : List Arrival) → (gave : List Item) → AnyKeeps self.now came gave
             → SameBag (data_of (items_of (any_told_of self.now came))) (data_received Stream (inputs_view (inputs_of self.now)) ++ data_received Build (inputs_view (inputs_of self.now))) }
         ensures mark { (came : List Arrival) → (gave : List Item) → AnyKeeps self.now came gave
@@ -50,83 +50,83 @@ impl AnyTasklet {
             ≡ low (histories (queue_count Stream (inputs_view (inputs_of self.now))) (λ q. get_or (received Stream (inputs_view (inputs_of self.now))) q [])) }
     {
         match self {
-            AnyTasklet::Stamp(tasklet) => tasklet.takes_from_all(),
-            AnyTasklet::Map(tasklet) => tasklet.takes_from_all(),
-            AnyTasklet::Filter(tasklet) => tasklet.takes_from_all(),
-            AnyTasklet::Flat(tasklet) => tasklet.takes_from_all(),
-            AnyTasklet::Join(tasklet) => tasklet.takes_from_all(),
-            AnyTasklet::Frame(tasklet) => tasklet.takes_from_all(),
-            AnyTasklet::Combine(tasklet) => tasklet.takes_from_all(),
+            AnyTasklet::Stamp(tasklet) => tasklet.law_takes_from_all(),
+            AnyTasklet::Map(tasklet) => tasklet.law_takes_from_all(),
+            AnyTasklet::Filter(tasklet) => tasklet.law_takes_from_all(),
+            AnyTasklet::Flat(tasklet) => tasklet.law_takes_from_all(),
+            AnyTasklet::Join(tasklet) => tasklet.law_takes_from_all(),
+            AnyTasklet::Frame(tasklet) => tasklet.law_takes_from_all(),
+            AnyTasklet::Combine(tasklet) => tasklet.law_takes_from_all(),
         }
     }
 
     /// Where the premise of its kind holds of what it was told, the list that each destination was sent is sound, and closed.
-    pub fn sends_in_order(&self)
+    pub fn law_sends_in_order(&self)
         ensures sound { (behind : ℕ → ℕ → Bool) → (came : List Arrival) → (gave : List Item) → AnyKeeps self.now came gave
             → AnySoundIf behind self.now came → EachSent (Sound behind) (outputs_view (outputs_of self.now)) }
         ensures closed { (came : List Arrival) → (gave : List Item) → AnyKeeps self.now came gave
             → AnyClosedIf self.now came → EachSent ClosedItems (outputs_view (outputs_of self.now)) }
     {
         match self {
-            AnyTasklet::Stamp(tasklet) => tasklet.sends_in_order(),
-            AnyTasklet::Map(tasklet) => tasklet.sends_in_order(),
-            AnyTasklet::Filter(tasklet) => tasklet.sends_in_order(),
-            AnyTasklet::Flat(tasklet) => tasklet.sends_in_order(),
-            AnyTasklet::Join(tasklet) => tasklet.sends_in_order(),
-            AnyTasklet::Frame(tasklet) => tasklet.sends_in_order(),
-            AnyTasklet::Combine(tasklet) => tasklet.sends_in_order(),
+            AnyTasklet::Stamp(tasklet) => tasklet.law_sends_in_order(),
+            AnyTasklet::Map(tasklet) => tasklet.law_sends_in_order(),
+            AnyTasklet::Filter(tasklet) => tasklet.law_sends_in_order(),
+            AnyTasklet::Flat(tasklet) => tasklet.law_sends_in_order(),
+            AnyTasklet::Join(tasklet) => tasklet.law_sends_in_order(),
+            AnyTasklet::Frame(tasklet) => tasklet.law_sends_in_order(),
+            AnyTasklet::Combine(tasklet) => tasklet.law_sends_in_order(),
         }
     }
 
     /// Where what each queue received is in order, so is what each destination was sent. A stamp makes the order itself, of
     /// the events of files.
-    pub fn passes_in_order(&self)
+    pub fn law_passes_in_order(&self)
         ensures sound { (behind : ℕ → ℕ → Bool) → (came : List Arrival) → (gave : List Item) → AnyKeeps self.now came gave
             → IsFedSound behind self.now → EachSent (Sound behind) (outputs_view (outputs_of self.now)) }
         ensures closed { (came : List Arrival) → (gave : List Item) → AnyKeeps self.now came gave
             → IsFedClosed self.now → EachSent ClosedItems (outputs_view (outputs_of self.now)) }
     {
-        self.sends_in_order();
+        self.law_sends_in_order();
         match self {
             AnyTasklet::Stamp(tasklet) => stamps_send_in_order(tasklet),
-            AnyTasklet::Map(tasklet) => tasklet.is_told_in_order(),
-            AnyTasklet::Filter(tasklet) => tasklet.is_told_in_order(),
-            AnyTasklet::Flat(tasklet) => tasklet.is_told_in_order(),
-            AnyTasklet::Join(tasklet) => tasklet.is_told_in_order(),
-            AnyTasklet::Frame(tasklet) => tasklet.is_told_in_order(),
-            AnyTasklet::Combine(tasklet) => tasklet.is_told_in_order(),
+            AnyTasklet::Map(tasklet) => tasklet.law_told_in_order(),
+            AnyTasklet::Filter(tasklet) => tasklet.law_told_in_order(),
+            AnyTasklet::Flat(tasklet) => tasklet.law_told_in_order(),
+            AnyTasklet::Join(tasklet) => tasklet.law_told_in_order(),
+            AnyTasklet::Frame(tasklet) => tasklet.law_told_in_order(),
+            AnyTasklet::Combine(tasklet) => tasklet.law_told_in_order(),
         }
     }
 
     /// What its processor has given, in whatever state the tasklet is, of what its queues received.
-    pub fn gives_so_far(&self)
+    pub fn law_gives_so_far(&self)
         ensures bag { (came : List Arrival) → (gave : List Item) → AnyKeeps self.now came gave → AnySoFar self.now came gave }
         ensures marks { (came : List Arrival) → (gave : List Item) → AnyKeeps self.now came gave → AnyMarksSoFar self.now came gave }
     {
         match self {
-            AnyTasklet::Stamp(tasklet) => tasklet.gives_so_far(),
-            AnyTasklet::Map(tasklet) => tasklet.gives_so_far(),
-            AnyTasklet::Filter(tasklet) => tasklet.gives_so_far(),
-            AnyTasklet::Flat(tasklet) => tasklet.gives_so_far(),
-            AnyTasklet::Join(tasklet) => tasklet.gives_so_far(),
-            AnyTasklet::Frame(tasklet) => tasklet.gives_so_far(),
-            AnyTasklet::Combine(tasklet) => tasklet.gives_so_far(),
+            AnyTasklet::Stamp(tasklet) => tasklet.law_gives_so_far(),
+            AnyTasklet::Map(tasklet) => tasklet.law_gives_so_far(),
+            AnyTasklet::Filter(tasklet) => tasklet.law_gives_so_far(),
+            AnyTasklet::Flat(tasklet) => tasklet.law_gives_so_far(),
+            AnyTasklet::Join(tasklet) => tasklet.law_gives_so_far(),
+            AnyTasklet::Frame(tasklet) => tasklet.law_gives_so_far(),
+            AnyTasklet::Combine(tasklet) => tasklet.law_gives_so_far(),
         }
     }
 
     /// What its processor has given once the tasklet has ended, of all that its queues received.
-    pub fn ends(&self)
+    pub fn law_ends(&self)
         ensures { (came : List Arrival) → (gave : List Item) → AnyKeeps self.now came gave → AnyHasEnded self.now
             → (given : List Item) × (gave ≡ given ++ item.Done ∷ []) × AnyOver self.now came given }
     {
         match self {
-            AnyTasklet::Stamp(tasklet) => tasklet.ends(),
-            AnyTasklet::Map(tasklet) => tasklet.ends(),
-            AnyTasklet::Filter(tasklet) => tasklet.ends(),
-            AnyTasklet::Flat(tasklet) => tasklet.ends(),
-            AnyTasklet::Join(tasklet) => tasklet.ends(),
-            AnyTasklet::Frame(tasklet) => tasklet.ends(),
-            AnyTasklet::Combine(tasklet) => tasklet.ends(),
+            AnyTasklet::Stamp(tasklet) => tasklet.law_ends(),
+            AnyTasklet::Map(tasklet) => tasklet.law_ends(),
+            AnyTasklet::Filter(tasklet) => tasklet.law_ends(),
+            AnyTasklet::Flat(tasklet) => tasklet.law_ends(),
+            AnyTasklet::Join(tasklet) => tasklet.law_ends(),
+            AnyTasklet::Frame(tasklet) => tasklet.law_ends(),
+            AnyTasklet::Combine(tasklet) => tasklet.law_ends(),
         }
     }
 }

@@ -19,78 +19,78 @@ use crate::rests::{stamps_mark_fronts, stamps_rest_at_the_low};
 
 impl AnyTasklet {
     /// Where what the queues received is as its kind asks, all that ever entered the outbox is sound, and closed.
-    pub fn enters_in_order(&self)
+    pub fn law_enters_in_order(&self)
         ensures sound { (behind : ℕ → ℕ → Bool) → (came : List Arrival) → (gave : List Item) → AnyKeeps self.now came gave → AnySoundIf behind self.now
             → Sound behind (gave ++ waiting self.now) }
         ensures closed { (came : List Arrival) → (gave : List Item) → AnyKeeps self.now came gave → AnyClosedIf self.now
             → Closed (gave ++ waiting self.now) }
     {
         match self {
-            AnyTasklet::Stamp(tasklet) => tasklet.enters_in_order(),
+            AnyTasklet::Stamp(tasklet) => tasklet.law_enters_in_order(),
             AnyTasklet::Map(tasklet) => {
-                tasklet.is_told_in_order();
-                tasklet.enters_in_order();
+                tasklet.law_told_in_order();
+                tasklet.law_enters_in_order();
             }
             AnyTasklet::Filter(tasklet) => {
-                tasklet.is_told_in_order();
-                tasklet.enters_in_order();
+                tasklet.law_told_in_order();
+                tasklet.law_enters_in_order();
             }
             AnyTasklet::Flat(tasklet) => {
-                tasklet.is_told_in_order();
-                tasklet.enters_in_order();
+                tasklet.law_told_in_order();
+                tasklet.law_enters_in_order();
             }
             AnyTasklet::Join(tasklet) => {
-                tasklet.is_told_in_order();
-                tasklet.enters_in_order();
+                tasklet.law_told_in_order();
+                tasklet.law_enters_in_order();
             }
             AnyTasklet::Frame(tasklet) => {
-                tasklet.is_told_in_order();
-                tasklet.enters_in_order();
+                tasklet.law_told_in_order();
+                tasklet.law_enters_in_order();
             }
             AnyTasklet::Combine(tasklet) => {
-                tasklet.is_told_in_order();
-                tasklet.enters_in_order();
+                tasklet.law_told_in_order();
+                tasklet.law_enters_in_order();
             }
         }
     }
 
     /// The list that each destination was sent has Done nowhere but at its end, and only where the tasklet has put it, every
     /// queue being done. Once the tasklet has ended, each of those lists ends in Done.
-    pub fn done_stands_last(&self)
+    pub fn law_done_last(&self)
         ensures { (came : List Arrival) → (gave : List Item) → AnyKeeps self.now came gave
             → EachSent (DoneLast (step_of self.now ≡ step.Ended) (AnyHasEnded self.now) (ins self.now)) (outs self.now) }
     {
         match self {
-            AnyTasklet::Stamp(tasklet) => tasklet.done_stands_last(),
-            AnyTasklet::Map(tasklet) => tasklet.done_stands_last(),
-            AnyTasklet::Filter(tasklet) => tasklet.done_stands_last(),
-            AnyTasklet::Flat(tasklet) => tasklet.done_stands_last(),
-            AnyTasklet::Join(tasklet) => tasklet.done_stands_last(),
-            AnyTasklet::Frame(tasklet) => tasklet.done_stands_last(),
-            AnyTasklet::Combine(tasklet) => tasklet.done_stands_last(),
+            AnyTasklet::Stamp(tasklet) => tasklet.law_done_last(),
+            AnyTasklet::Map(tasklet) => tasklet.law_done_last(),
+            AnyTasklet::Filter(tasklet) => tasklet.law_done_last(),
+            AnyTasklet::Flat(tasklet) => tasklet.law_done_last(),
+            AnyTasklet::Join(tasklet) => tasklet.law_done_last(),
+            AnyTasklet::Frame(tasklet) => tasklet.law_done_last(),
+            AnyTasklet::Combine(tasklet) => tasklet.law_done_last(),
         }
     }
 
     /// Each mark that ever entered the outbox, and each that a destination was sent, is one that a stream queue received; of
     /// a stamp, the mark of the events that one of its queues received up to some place.
-    pub fn marks_were_received(&self)
+    pub fn law_marks_received(&self)
         ensures entered { (came : List Arrival) → (gave : List Item) → AnyKeeps self.now came gave → Each (AnyMayGive self.now) (marks_of (gave ++ waiting self.now)) }
         ensures sent { (came : List Arrival) → (gave : List Item) → AnyKeeps self.now came gave → EachSent (λ xs. Each (AnyMayGive self.now) (marks_of xs)) (outs self.now) }
     {
         match self {
             AnyTasklet::Stamp(tasklet) => stamps_mark_fronts(tasklet),
-            AnyTasklet::Map(tasklet) => tasklet.marks_were_received(),
-            AnyTasklet::Filter(tasklet) => tasklet.marks_were_received(),
-            AnyTasklet::Flat(tasklet) => tasklet.marks_were_received(),
-            AnyTasklet::Join(tasklet) => tasklet.marks_were_received(),
-            AnyTasklet::Frame(tasklet) => tasklet.marks_were_received(),
-            AnyTasklet::Combine(tasklet) => tasklet.marks_were_received(),
+            AnyTasklet::Map(tasklet) => tasklet.law_marks_received(),
+            AnyTasklet::Filter(tasklet) => tasklet.law_marks_received(),
+            AnyTasklet::Flat(tasklet) => tasklet.law_marks_received(),
+            AnyTasklet::Join(tasklet) => tasklet.law_marks_received(),
+            AnyTasklet::Frame(tasklet) => tasklet.law_marks_received(),
+            AnyTasklet::Combine(tasklet) => tasklet.law_marks_received(),
         }
     }
 
     /// At rest and with a stream queue that is not done, the last mark that each destination was sent is the low of those
     /// queues; and where each of them has reached s, so has that mark.
-    pub fn marks_rest_at_the_low(&self)
+    pub fn law_marks_at_rest(&self)
         ensures last { (low : Option ℤ) → (came : List Arrival) → (gave : List Item) → AnyKeeps self.now came gave → AnyIsAtRest self.now → HasOpen (ins self.now)
             → AnyIsLow self.now came low → EachSent (λ xs. last_mark xs ≡ low) (outs self.now) }
         ensures passes { (s : ℤ) → (came : List Arrival) → (gave : List Item) → AnyKeeps self.now came gave → AnyIsAtRest self.now → HasOpen (ins self.now)
@@ -98,17 +98,17 @@ impl AnyTasklet {
     {
         match self {
             AnyTasklet::Stamp(tasklet) => stamps_rest_at_the_low(tasklet),
-            AnyTasklet::Map(tasklet) => tasklet.marks_rest_at_the_low(),
-            AnyTasklet::Filter(tasklet) => tasklet.marks_rest_at_the_low(),
-            AnyTasklet::Flat(tasklet) => tasklet.marks_rest_at_the_low(),
-            AnyTasklet::Join(tasklet) => tasklet.marks_rest_at_the_low(),
-            AnyTasklet::Frame(tasklet) => tasklet.marks_rest_at_the_low(),
-            AnyTasklet::Combine(tasklet) => tasklet.marks_rest_at_the_low(),
+            AnyTasklet::Map(tasklet) => tasklet.law_marks_at_rest(),
+            AnyTasklet::Filter(tasklet) => tasklet.law_marks_at_rest(),
+            AnyTasklet::Flat(tasklet) => tasklet.law_marks_at_rest(),
+            AnyTasklet::Join(tasklet) => tasklet.law_marks_at_rest(),
+            AnyTasklet::Frame(tasklet) => tasklet.law_marks_at_rest(),
+            AnyTasklet::Combine(tasklet) => tasklet.law_marks_at_rest(),
         }
     }
 
     /// A tasklet that waits for items is at rest.
-    pub fn starved_rests(&self)
+    pub fn law_starved_rests(&self)
         ensures { AnyIsStarved self.now → AnyIsAtRest self.now }
     {}
 }

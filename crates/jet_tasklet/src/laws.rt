@@ -23,12 +23,12 @@ impl<P: Processor> Tasklet<P> {
     ghost use Rattle.jet_boxes.specs.declared.port.Port.{Port};
     ghost use Rattle.jet_tasklet.specs.Taking.{NoneToTake};
     ghost use Rattle.jet_items.specs.Order.{Sound, Closed as ClosedItems};
-    ghost use Rattle.jet_boxes.specs.Entry.{Entry, items_of};
+    ghost use Rattle.jet_boxes.specs.Entry.{CallEntry, items_of};
     ghost use Rattle.jet_boxes.specs.declared.port.Port.TheVariants.{Stream, Build};
     ghost use Rattle.jet_tasklet.specs.Outputs.{outputs_view, sent_count, Says};
     ghost use Rattle.jet_tasklet.specs.Sending.{EachReceived, EachSent, EachFront};
     ghost use Rattle.jet_tasklet.specs.Turning.{is_free, rank, HasEnded, Worked, TakesNone, BeginsFinish, IsFull, IsBlocked, IsStarved, Moves, IsStill};
-    ghost use Rattle.jet_tasklet.specs.Leaving.{IsStopped};
+    ghost use Rattle.jet_tasklet.specs.inner.Leaving.{IsStopped};
     ghost use Rattle.jet_tasklet.specs.Lending.{with_input, with_output};
     ghost use Rattle.jet_conveyor.specs.Conveyor as conveyor;
     ghost use Rattle.jet_conveyor.specs.declared.conveyor.Conveyor.{Conveyor};
@@ -36,14 +36,14 @@ impl<P: Processor> Tasklet<P> {
     ghost use Rattle.jet_router.specs.declared.router.Router.{Router};
 
     /// In a tasklet the laws of its processor hold of all that it was told, less what is pending.
-    pub fn keeps_laws(&self)
+    pub fn law_keeps(&self)
         ensures bag { (came : List Arrival) → (gave : List Item) → Keeps P.stands P.amid P.takes self.now came gave → Keeps P.bag P.bag_amid P.takes self.now came gave }
         ensures marks { (came : List Arrival) → (gave : List Item) → Keeps P.stands P.amid P.takes self.now came gave → Keeps P.marks P.marks_amid P.takes self.now came gave }
     {}
 
     /// Where the list that each queue received is sound, so is the list of items and marks that the processor was told,
     /// and where those lists are closed, so is it.
-    pub fn is_told_in_order(&self)
+    pub fn law_told_in_order(&self)
         ensures sound { (behind : ℕ → ℕ → Bool) → (came : List Arrival) → (gave : List Item) → Keeps P.stands P.amid P.takes self.now came gave
             → EachReceived (Sound behind) (inputs_view self.now.inputs.items)
             → EachFront (λ taken. Sound behind (items_of taken)) (told self.now.step (queue_count Stream (inputs_view self.now.inputs.items)) came) }
@@ -54,7 +54,7 @@ impl<P: Processor> Tasklet<P> {
 
     /// Where the processor's premise holds of what it was told, the list that each destination was sent is sound, and
     /// closed: also after the end, since no processor gives a Done.
-    pub fn sends_in_order(&self)
+    pub fn law_sends_in_order(&self)
         ensures sound { (behind : ℕ → ℕ → Bool) → (came : List Arrival) → (gave : List Item) → Keeps P.stands P.amid P.takes self.now came gave
             → EachFront (P.sound_if self.now.processor behind) (told self.now.step (queue_count Stream (inputs_view self.now.inputs.items)) came)
             → EachSent (Sound behind) (outputs_view self.now.outputs.items) }
@@ -62,12 +62,12 @@ impl<P: Processor> Tasklet<P> {
             → EachFront (P.closed_if self.now.processor) (told self.now.step (queue_count Stream (inputs_view self.now.inputs.items)) came)
             → EachSent ClosedItems (outputs_view self.now.outputs.items) }
     {
-        self.enters_in_order();
+        self.law_enters_in_order();
     }
 
     /// The data that the processor was told is that which all queues received, whatever the order in which it came, and
     /// while a stream queue is not done the last mark told or pending is the least of the greatest marks of those queues.
-    pub fn takes_from_all(&self)
+    pub fn law_takes_from_all(&self)
         ensures bag { (came : List Arrival) → (gave : List Item) → Keeps P.stands P.amid P.takes self.now came gave
             → SameBag (data_of (items_of (told self.now.step (queue_count Stream (inputs_view self.now.inputs.items)) came)))
             (data_received Stream (inputs_view self.now.inputs.items) ++ data_received Build (inputs_view self.now.inputs.items)) }
@@ -78,7 +78,7 @@ impl<P: Processor> Tasklet<P> {
     {}
 
     /// A meeting of an end that the tasklet has lent out leaves what came to it, what it gave and what it keeps.
-    pub fn keeps_at_meetings(&self)
+    pub fn law_keeps_at_meetings(&self)
         ensures input { (came : List Arrival) → (gave : List Item) → (n q : ℕ) → (was w : Conveyor) → Keeps P.stands P.amid P.takes self.now came gave
             → slice_get (map (λ i. i.conveyor) self.now.inputs.items) n ≡ Some was → conveyor.Refreshed (conveyor.view was) (conveyor.view w) q
             → Keeps P.stands P.amid P.takes (with_input self.now n was w) came gave }

@@ -6,7 +6,7 @@ ghost use Rattle.jet_coalescer.specs.Queues.{is_done_at};
 ghost use Rattle.jet_tasklet.specs.declared.arrival.Arrival.{Arrival};
 ghost use Rattle.jet_tasklet.specs.Trace.{heard, asks};
 ghost use Rattle.jet_tasklet.specs.Steps.{owed, told_next};
-ghost use Rattle.jet_tasklet.specs.Noting.{raised_to, EndsQueue, Notes};
+ghost use Rattle.jet_tasklet.specs.inner.Noting.{raised_to, EndsQueue, Notes};
 
 use crate::Arrival;
 use crate::step::{Pending, Step};

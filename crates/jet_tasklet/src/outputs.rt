@@ -5,7 +5,7 @@ ghost use Rattle.jet_items.specs.Order.{Each};
 ghost use Rattle.jet_router.specs.Router.{view};
 ghost use Rattle.jet_router.specs.Deals.{IsFull};
 ghost use Rattle.jet_tasklet.specs.Outputs.{output_view, outputs_view, ready, InGift, Giving, SomeBlocked, SomeWaits, sent_count, Says};
-ghost use Rattle.jet_tasklet.specs.Leaving.{Leaves, IsStopped};
+ghost use Rattle.jet_tasklet.specs.inner.Leaving.{Leaves, IsStopped};
 ghost use Rattle.jet_tasklet.specs.Turned.{OutputGoes};
 ghost use Rattle.std.specs.List.{AllZip};
 

@@ -5,7 +5,7 @@ ghost use Rattle.std.specs.Option.{IsSomeAnd};
 ghost use Rattle.jet_items.specs.declared.item.Item.{Item};
 ghost use Rattle.jet_items.specs.Kinds.{marks_of};
 ghost use Rattle.jet_items.specs.Order.{Closed, Each, Sound};
-ghost use Rattle.jet_boxes.specs.Entry.{Entry};
+ghost use Rattle.jet_boxes.specs.Entry.{CallEntry};
 ghost use Rattle.jet_boxes.specs.declared.port.Port.TheVariants.{Stream};
 ghost use Rattle.jet_tasklet.specs.declared.arrival.Arrival.{Arrival};
 ghost use Rattle.jet_tasklet.specs.declared.step.Step.TheVariants as step;
@@ -26,7 +26,7 @@ use jet_stages::Stamp;
 
 impl<P: Processor> Tasklet<P> {
     /// Where the processor's premise holds of what it was told, all that ever entered the outbox is sound, and closed.
-    pub fn enters_in_order(&self)
+    pub fn law_enters_in_order(&self)
         ensures sound { (behind : ℕ → ℕ → Bool) → (came : List Arrival) → (gave : List Item) → Keeps P.stands P.amid P.takes self.now came gave
             → EachFront (P.sound_if self.now.processor behind) (told self.now.step (queue_count Stream (inputs_view self.now.inputs.items)) came)
             → Sound behind (gave ++ self.now.outbox.items) }
@@ -37,28 +37,28 @@ impl<P: Processor> Tasklet<P> {
 
     /// The list that each destination was sent has Done nowhere but at its end, and only where the tasklet has put it, every
     /// queue being done. Once the tasklet has ended, each of those lists ends in Done.
-    pub fn done_stands_last(&self)
+    pub fn law_done_last(&self)
         ensures { (came : List Arrival) → (gave : List Item) → Keeps P.stands P.amid P.takes self.now came gave
             → EachSent (DoneLast (self.now.step ≡ step.Ended) (HasEnded self.now) (inputs_view self.now.inputs.items)) (outputs_view self.now.outputs.items) }
     {}
 
     /// Where the processor gives the marks that it takes and no others, each mark that ever entered the outbox, and each
     /// that a destination was sent, is one that a stream queue received.
-    pub fn marks_were_received(&self)
+    pub fn law_marks_received(&self)
         ensures entered { (came : List Arrival) → (gave : List Item) → Keeps P.stands P.amid P.takes self.now came gave
-            → PassMarks (P.marks self.now.processor) → ((entry : Entry) → PassMarks (λ taken given. P.marks_amid self.now.processor taken entry given))
+            → PassMarks (P.marks self.now.processor) → ((entry : CallEntry) → PassMarks (λ taken given. P.marks_amid self.now.processor taken entry given))
             → Each (IsReceived (inputs_view self.now.inputs.items)) (marks_of (gave ++ self.now.outbox.items)) }
         ensures sent { (came : List Arrival) → (gave : List Item) → Keeps P.stands P.amid P.takes self.now came gave
-            → PassMarks (P.marks self.now.processor) → ((entry : Entry) → PassMarks (λ taken given. P.marks_amid self.now.processor taken entry given))
+            → PassMarks (P.marks self.now.processor) → ((entry : CallEntry) → PassMarks (λ taken given. P.marks_amid self.now.processor taken entry given))
             → EachSent (λ xs. Each (IsReceived (inputs_view self.now.inputs.items)) (marks_of xs)) (outputs_view self.now.outputs.items) }
     {
-        self.keeps_laws();
+        self.law_keeps();
     }
 
     /// Where the processor gives the marks that it takes and no others, the tasklet is at rest and a stream queue is not
     /// done, the last mark that each destination was sent is the least of the greatest marks that those queues received.
     /// And where each of those queues received a mark that is not below s, that mark is not below s.
-    pub fn marks_rest_at_the_low(&self)
+    pub fn law_marks_at_rest(&self)
         ensures last { (came : List Arrival) → (gave : List Item) → Keeps P.stands P.amid P.takes self.now came gave
             → PassMarks (P.marks self.now.processor) → IsAtRest self.now → HasOpen (inputs_view self.now.inputs.items)
             → EachSent (λ xs. last_mark xs ≡ low_received (inputs_view self.now.inputs.items)) (outputs_view self.now.outputs.items) }
@@ -66,7 +66,7 @@ impl<P: Processor> Tasklet<P> {
             → PassMarks (P.marks self.now.processor) → IsAtRest self.now → HasOpen (inputs_view self.now.inputs.items) → AllReached (inputs_view self.now.inputs.items) s
             → EachSent (λ xs. IsSomeAnd (last_mark xs) (λ m. s ≤ℤ m)) (outputs_view self.now.outputs.items) }
     {
-        self.keeps_laws();
+        self.law_keeps();
     }
 }
 
@@ -89,7 +89,7 @@ pub fn stamps_mark_fronts(stamp: &Tasklet<Stamp>)
     ensures sent { (came : List Arrival) → (gave : List Item) → Keeps stamps.stands stamps.amid stamps.takes stamp.now came gave
         → EachSent (λ xs. Each (IsOfFront stamp.now.processor.lag stamp.now.processor.grain (inputs_view stamp.now.inputs.items)) (marks_of xs)) (outputs_view stamp.now.outputs.items) }
 {
-    stamp.keeps_laws();
+    stamp.law_keeps();
 }
 
 /// A law: at rest the last mark that each destination of a stamp was sent is the watermark of what the stamp was told; and
@@ -104,5 +104,5 @@ pub fn stamps_rest_at_the_low(stamp: &Tasklet<Stamp>)
         → HasAwake (inputs_view stamp.now.inputs.items) → FilesReached stamp.now.processor.lag stamp.now.processor.grain (inputs_view stamp.now.inputs.items) s
         → EachSent (λ xs. IsSomeAnd (last_mark xs) (λ m. s ≤ℤ m)) (outputs_view stamp.now.outputs.items) }
 {
-    stamp.keeps_laws();
+    stamp.law_keeps();
 }

@@ -24,5 +24,5 @@ pub fn stamps_send_in_order(stamp: &Tasklet<Stamp>)
         → EachReceived (Each IsNoResult) (inputs_view stamp.now.inputs.items)
         → EachSent Closed (outputs_view stamp.now.outputs.items) }
 {
-    stamp.sends_in_order();
+    stamp.law_sends_in_order();
 }

@@ -45,12 +45,12 @@ impl<P: Processor> Tasklet<P> {
     ghost use Rattle.jet_boxes.specs.declared.port.Port.{Port};
     ghost use Rattle.jet_tasklet.specs.Taking.{NoneToTake};
     ghost use Rattle.jet_items.specs.Order.{Sound, Closed as ClosedItems};
-    ghost use Rattle.jet_boxes.specs.Entry.{Entry, items_of};
+    ghost use Rattle.jet_boxes.specs.Entry.{CallEntry, items_of};
     ghost use Rattle.jet_boxes.specs.declared.port.Port.TheVariants.{Stream, Build};
     ghost use Rattle.jet_tasklet.specs.Outputs.{outputs_view, ready, HasDest, sent_count, Says};
     ghost use Rattle.jet_tasklet.specs.Sending.{EachReceived, EachSent, EachFront};
     ghost use Rattle.jet_tasklet.specs.Turning.{is_free, rank, HasEnded, Worked, TakesNone, BeginsFinish, IsFull, IsBlocked, IsStarved, Moves, IsStill};
-    ghost use Rattle.jet_tasklet.specs.Leaving.{IsStopped};
+    ghost use Rattle.jet_tasklet.specs.inner.Leaving.{IsStopped};
     ghost use Rattle.jet_tasklet.specs.Turned.{Turned};
     ghost use Rattle.jet_tasklet.specs.Wanting.{IsWanting};
 

@@ -7,7 +7,7 @@ ghost use Rattle.jet_tasklet.specs.Inputs.{inputs_view};
 ghost use Rattle.jet_tasklet.specs.Outputs.{outputs_view};
 ghost use Rattle.jet_tasklet.specs.Keeps.{IsLawful};
 ghost use Rattle.jet_tasklet.specs.Any.{AnyIsLawful};
-ghost use Rattle.jet_tasklet.specs.Chain.{ring_in, ring_out, ends_of, AreJoined, IsChain};
+ghost use Rattle.jet_tasklet.specs.inner.Chain.{ring_in, ring_out, ends_of, AreJoined, IsChain};
 
 use super::*;
 use jet_boxes::{Outbox, Port, Processor};

@@ -8,9 +8,9 @@ use Rattle.jet_items.specs.declared.item.Item.{Item}
 use Rattle.jet_items.specs.declared.item.Item.TheVariants as item
 use Rattle.jet_boxes.specs.declared.port.Port.{Port}
 use Rattle.jet_items.specs.declared.no_memory.NoMemory.{NoMemory}
-use Rattle.jet_boxes.specs.Entry.{Entry, Given, Told, Closed, Finish, IsData}
+use Rattle.jet_boxes.specs.Entry.{CallEntry, Given, MarkTold, QueueClosed, Finish, IsData}
 use Rattle.jet_boxes.specs.Calls.{Call, Outcome}
-use Rattle.jet_boxes.specs.Held.{Held}
+use Rattle.jet_boxes.specs.Held.{BoxView}
 use Rattle.jet_window.specs.CombineCalls.{Stands, Amid, Alike}
 use Rattle.jet_window.specs.declared.combine.CombineP.{CombineP}
 use Rattle.jet_window.specs.Tables.{Place, place_cmp}
@@ -31,12 +31,12 @@ may_want (Ok b) = tt
 may_want (Err e) = refl
 
 -- a call that is still to be ended
-partial : (p : CombineP) (taken : List Entry) (entry : Entry) (given : List Item) (r : Result Bool NoMemory) → (r ≡ Ok true → ⊥) → Amid p taken entry given → Outcome Stands Amid p taken entry given r
+partial : (p : CombineP) (taken : List CallEntry) (entry : CallEntry) (given : List Item) (r : Result Bool NoMemory) → (r ≡ Ok true → ⊥) → Amid p taken entry given → Outcome Stands Amid p taken entry given r
 partial p taken entry given (Ok true) h k = absurd (h refl)
 partial p taken entry given (Ok false) h k = k
 partial p taken entry given (Err e) h k = k
 
-pub mark_partial : (p q : CombineP) (t : ℤ) (before after : Held) (r : Result Bool NoMemory) → q.policy ≡ p.policy → Gave (combine_of p) before.items (combine_of q) after.items → (Passes p.passed t → Passes q.passed t) → after.room ≡ before.room → (r ≡ Ok true → ⊥) → (r ≡ Ok false → length after.items ≡ after.room) → Call Stands Amid Alike false p (Told t) before r q after
+pub mark_partial : (p q : CombineP) (t : ℤ) (before after : BoxView) (r : Result Bool NoMemory) → q.policy ≡ p.policy → Gave (combine_of p) before.items (combine_of q) after.items → (Passes p.passed t → Passes q.passed t) → after.room ≡ before.room → (r ≡ Ok true → ⊥) → (r ≡ Ok false → length after.items ≡ after.room) → Call Stands Amid Alike false p (MarkTold t) before r q after
 mark_partial p q t before after r policy gave bound room not full = record {
   put = gave.put;
   settings = (gave.vertex, policy);
@@ -44,14 +44,14 @@ mark_partial p q t before after r policy gave bound room not full = record {
   puts = gave.puts;
   full = full;
   wants = may_want r;
-  keeps = λ taken given h. partial q taken (Told t) (given ++ gave.put) r not (marking_gave (combine_of p) before.items (combine_of q) after.items taken t given gave bound h);
+  keeps = λ taken given h. partial q taken (MarkTold t) (given ++ gave.put) r not (marking_gave (combine_of p) before.items (combine_of q) after.items taken t given gave bound h);
 }
 
-pub mark_whole : (p q s : CombineP) (t : ℤ) (before middle after : Held) → q.policy ≡ p.policy → Gave (combine_of p) before.items (combine_of q) middle.items → (Passes p.passed t → Passes q.passed t) → middle.room ≡ before.room
+pub mark_whole : (p q s : CombineP) (t : ℤ) (before middle after : BoxView) → q.policy ≡ p.policy → Gave (combine_of p) before.items (combine_of q) middle.items → (Passes p.passed t → Passes q.passed t) → middle.room ≡ before.room
     → q.ready.entries ≡ [] → Clear q.policy.size q.policy.slide q.passed q.held.entries t → OpenAbove q.policy.size q.policy.slide t q.held.entries
     → s.vertex ≡ q.vertex → s.policy ≡ q.policy → s.passed ≡ Some t → s.end ≡ q.end → s.held ≡ q.held → s.ready ≡ q.ready
     → after.room ≡ middle.room → after.items ≡ middle.items ++ item.Mark t ∷ []
-    → Call Stands Amid Alike false p (Told t) before (Ok true) s after
+    → Call Stands Amid Alike false p (MarkTold t) before (Ok true) s after
 mark_whole p q s t before middle after policy gave bound room none clear above v o w e h r room' items =
     let same : record (combine_of q) { passed = Some t } ≡ combine_of s = same_combine _ _ _ _ _ _ _ _ _ _ _ _ _ _ (sym v) (sym (ap (λ x. x.size) o)) (sym (ap (λ x. x.slide) o)) (sym w) (sym e) (sym (ap (λ x. x.entries) h)) (sym (ap (λ x. x.entries) r)) in
     record {
@@ -62,20 +62,20 @@ mark_whole p q s t before middle after policy gave bound room none clear above v
       full = λ f. absurd (never f);
       wants = tt;
       keeps = λ taken given k.
-          subst (λ (xs : List Item). CombineStands (combine_of s) (taken ++ Told t ∷ []) xs) (append_assoc given gave.put (item.Mark t ∷ []))
-          (subst (λ (z : Combine). CombineStands z (taken ++ Told t ∷ []) ((given ++ gave.put) ++ item.Mark t ∷ [])) same
+          subst (λ (xs : List Item). CombineStands (combine_of s) (taken ++ MarkTold t ∷ []) xs) (append_assoc given gave.put (item.Mark t ∷ []))
+          (subst (λ (z : Combine). CombineStands z (taken ++ MarkTold t ∷ []) ((given ++ gave.put) ++ item.Mark t ∷ [])) same
           (stands_mark (combine_of q) taken t (given ++ gave.put) none clear above (marking_gave (combine_of p) before.items (combine_of q) middle.items taken t given gave bound k)));
     }
   where
     never : (let yes : Result Bool NoMemory = Ok true in yes ≡ Ok false) → ⊥
     never f = absurd (cc)
 
-finish_outcome : (q : CombineP) (taken : List Entry) (given : List Item) (r : Result Bool NoMemory) → (r ≡ Ok true → q.ready.entries ≡ []) → (r ≡ Ok true → q.held.entries ≡ []) → Finishing (combine_of q) taken given → Outcome Stands Amid q taken Finish given r
+finish_outcome : (q : CombineP) (taken : List CallEntry) (given : List Item) (r : Result Bool NoMemory) → (r ≡ Ok true → q.ready.entries ≡ []) → (r ≡ Ok true → q.held.entries ≡ []) → Finishing (combine_of q) taken given → Outcome Stands Amid q taken Finish given r
 finish_outcome q taken given (Ok true) none empty k = stands_finish (combine_of q) taken given (none refl) (empty refl) k
 finish_outcome q taken given (Ok false) none empty k = k
 finish_outcome q taken given (Err e) none empty k = k
 
-pub finish_call : (p q : CombineP) (before after : Held) (r : Result Bool NoMemory) → q.policy ≡ p.policy → Gave (combine_of p) before.items (combine_of q) after.items → after.room ≡ before.room → (r ≡ Ok true → q.ready.entries ≡ []) → (r ≡ Ok true → q.held.entries ≡ []) → (r ≡ Ok false → length after.items ≡ after.room) → Call Stands Amid Alike false p Finish before r q after
+pub finish_call : (p q : CombineP) (before after : BoxView) (r : Result Bool NoMemory) → q.policy ≡ p.policy → Gave (combine_of p) before.items (combine_of q) after.items → after.room ≡ before.room → (r ≡ Ok true → q.ready.entries ≡ []) → (r ≡ Ok true → q.held.entries ≡ []) → (r ≡ Ok false → length after.items ≡ after.room) → Call Stands Amid Alike false p Finish before r q after
 finish_call p q before after r policy gave room none empty full = record {
   put = gave.put;
   settings = (gave.vertex, policy);
@@ -93,7 +93,7 @@ grows size held f range h = record {
   ranges = each_insert place_cmp place_total place_equal (λ (z : Place). IsWithin most_frame_end z.0) (f.end, f.key) _ held h.ranges range;
 }
 
-pub frame_call : (p s : CombineP) (port : Port) (queue : ℕ) (f : FrameValue) (before : Held) → IsWithin most_frame_end f.end → s.vertex ≡ p.vertex → s.policy ≡ p.policy → s.passed ≡ p.passed → s.end ≡ p.end → s.ready ≡ p.ready → s.held.entries ≡ joined_in p.held.entries (f.end, f.key) f.acc → Call Stands Amid Alike false p (Given port queue (item.Frame f)) before (Ok true) s before
+pub frame_call : (p s : CombineP) (port : Port) (queue : ℕ) (f : FrameValue) (before : BoxView) → IsWithin most_frame_end f.end → s.vertex ≡ p.vertex → s.policy ≡ p.policy → s.passed ≡ p.passed → s.end ≡ p.end → s.ready ≡ p.ready → s.held.entries ≡ joined_in p.held.entries (f.end, f.key) f.acc → Call Stands Amid Alike false p (Given port queue (item.Frame f)) before (Ok true) s before
 frame_call p s port queue f before range v o w e r h =
     let new : Table = joined_in p.held.entries (f.end, f.key) f.acc in
     let same : record (combine_of p) { held = new } ≡ combine_of s = same_combine _ _ _ _ _ _ _ _ _ _ _ _ _ _ (sym v) (sym (ap (λ x. x.size) o)) (sym (ap (λ x. x.slide) o)) (sym w) (sym e) (sym h) (sym (ap (λ x. x.entries) r)) in
@@ -114,7 +114,7 @@ frame_call p s port queue f before range v o w e r h =
     never : (let yes : Result Bool NoMemory = Ok true in yes ≡ Ok false) → ⊥
     never g = absurd (cc)
 
-pub pass_call : (p : CombineP) (port : Port) (queue : ℕ) (x : Item) (before after : Held) → (IsFrame x → ⊥) → IsData x → after.room ≡ before.room → after.items ≡ before.items ++ x ∷ [] → Call Stands Amid Alike false p (Given port queue x) before (Ok true) p after
+pub pass_call : (p : CombineP) (port : Port) (queue : ℕ) (x : Item) (before after : BoxView) → (IsFrame x → ⊥) → IsData x → after.room ≡ before.room → after.items ≡ before.items ++ x ∷ [] → Call Stands Amid Alike false p (Given port queue x) before (Ok true) p after
 pass_call p port queue x before after not data_is room items = record {
   put = x ∷ [];
   settings = (refl, refl);
@@ -146,7 +146,7 @@ err_not_ok (Ok d) b h k = not_true h
 err_not_ok (Err e) b h k = absurd (cc)
 
 -- a queue ends
-pub close_call : (p : CombineP) (port : Port) (queue : ℕ) (before : Held) → Call Stands Amid Alike false p (Closed port queue) before (Ok true) p before
+pub close_call : (p : CombineP) (port : Port) (queue : ℕ) (before : BoxView) → Call Stands Amid Alike false p (QueueClosed port queue) before (Ok true) p before
 close_call p port queue before = record {
   put = [];
   settings = (refl, refl);
@@ -154,14 +154,14 @@ close_call p port queue before = record {
   puts = sym (append-nil before.items);
   full = λ g. absurd (never g);
   wants = tt;
-  keeps = λ taken given k. subst (Stands p (taken ++ Closed port queue ∷ [])) (sym (append-nil given)) (stands_close (combine_of p) taken given port queue k);
+  keeps = λ taken given k. subst (Stands p (taken ++ QueueClosed port queue ∷ [])) (sym (append-nil given)) (stands_close (combine_of p) taken given port queue k);
 }
   where
     never : (let yes : Result Bool NoMemory = Ok true in yes ≡ Ok false) → ⊥
     never g = absurd (cc)
 
 -- nothing was put: there was no room, or memory was wanted
-pub nothing_call : (p s : CombineP) (port : Port) (queue : ℕ) (x : Item) (before : Held) (r : Result Bool NoMemory) → (r ≡ Ok true → ⊥) → (r ≡ Ok false → length before.items ≡ before.room) → s.vertex ≡ p.vertex → s.policy ≡ p.policy → s.passed ≡ p.passed → s.end ≡ p.end → s.held.entries ≡ p.held.entries → s.ready ≡ p.ready → Call Stands Amid Alike false p (Given port queue x) before r s before
+pub nothing_call : (p s : CombineP) (port : Port) (queue : ℕ) (x : Item) (before : BoxView) (r : Result Bool NoMemory) → (r ≡ Ok true → ⊥) → (r ≡ Ok false → length before.items ≡ before.room) → s.vertex ≡ p.vertex → s.policy ≡ p.policy → s.passed ≡ p.passed → s.end ≡ p.end → s.held.entries ≡ p.held.entries → s.ready ≡ p.ready → Call Stands Amid Alike false p (Given port queue x) before r s before
 nothing_call p s port queue x before r not full v o w e h ready =
     let same : combine_of p ≡ combine_of s = same_combine _ _ _ _ _ _ _ _ _ _ _ _ _ _ (sym v) (sym (ap (λ x. x.size) o)) (sym (ap (λ x. x.slide) o)) (sym w) (sym e) (sym h) (sym (ap (λ x. x.entries) ready)) in
     record {

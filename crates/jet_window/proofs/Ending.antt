@@ -24,7 +24,7 @@ use Rattle.jet_window.specs.FrameTables.{Table, held_in, Ordered, IsKept}
 use Rattle.jet_window.specs.Tables.{is_multiple}
 use Rattle.jet_window.specs.Taken.{is_due, InOpenWindow}
 use Rattle.jet_window.specs.Combining.{Forgets}
-use Rattle.jet_window.specs.NextEnds.{IsEndAbove, IsNextEnd, HeldUntil}
+use Rattle.jet_window.specs.inner.NextEnds.{IsEndAbove, IsNextEnd, HeldUntil}
 
 -- the test and the fact
 pub multiple_test : (slide e : ℤ) → pos 1 ≤ℤ slide → IsMultiple slide e → is_multiple slide e ≡ true

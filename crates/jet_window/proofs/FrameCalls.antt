@@ -17,11 +17,11 @@ use Rattle.jet_items.specs.declared.no_memory.NoMemory.{NoMemory}
 use Rattle.jet_items.proofs.Totaling.{total-map}
 use Rattle.jet_boxes.specs.declared.port.Port.{Port}
 use Rattle.jet_boxes.specs.Calls.{Call}
-use Rattle.jet_boxes.specs.Entry.{Entry, Given, Told, Closed, Finish, IsData}
-use Rattle.jet_boxes.specs.Held.{Held}
+use Rattle.jet_boxes.specs.Entry.{CallEntry, Given, MarkTold, QueueClosed, Finish, IsData}
+use Rattle.jet_boxes.specs.Held.{BoxView}
 use Rattle.jet_window.specs.FrameCalls.{Stands, Amid, Alike}
 use Rattle.jet_window.specs.declared.frame.FrameP.{FrameP}
-use Rattle.jet_window.specs.FrameMoves.{Moved, StopsAbove}
+use Rattle.jet_window.specs.inner.FrameMoves.{Moved, StopsAbove}
 use Rattle.jet_window.specs.FrameStands.{FrameStands, IsEvent}
 use Rattle.jet_window.specs.FrameTables.{Table, joined_in, frame_of, IsKept}
 use Rattle.jet_window.specs.LateEvents.{is_late}
@@ -38,13 +38,13 @@ ok_apart : (let yes : Result Bool NoMemory = Ok true in yes ≡ Ok false) → �
 ok_apart h = absurd (cc)
 
 -- an item was put, or there was no room
-pub put_call : (p : FrameP) (entry : Entry) (x : Item) (before after : Held) (b : Bool) → (b ≡ true → after ≡ record before { items = before.items ++ x ∷ [] }) → (b ≡ false → after ≡ before) → (b ≡ false → length before.items ≡ before.room)
-    → ((taken : List Entry) (given : List Item) → Amid p taken entry given → Stands p (taken ++ entry ∷ []) (given ++ x ∷ [])) → Call Stands Amid Alike false p entry before (Ok b) p after
+pub put_call : (p : FrameP) (entry : CallEntry) (x : Item) (before after : BoxView) (b : Bool) → (b ≡ true → after ≡ record before { items = before.items ++ x ∷ [] }) → (b ≡ false → after ≡ before) → (b ≡ false → length before.items ≡ before.room)
+    → ((taken : List CallEntry) (given : List Item) → Amid p taken entry given → Stands p (taken ++ entry ∷ []) (given ++ x ∷ [])) → Call Stands Amid Alike false p entry before (Ok b) p after
 put_call p entry x before after true gave none full step = record {
   put = x ∷ [];
   settings = (refl, refl);
-  room = ap (λ (b : Held). b.room) (gave refl);
-  puts = ap (λ (b : Held). b.items) (gave refl);
+  room = ap (λ (b : BoxView). b.room) (gave refl);
+  puts = ap (λ (b : BoxView). b.items) (gave refl);
   full = λ e. absurd (ok_apart e);
   wants = tt;
   keeps = λ taken given h. step taken given h;
@@ -52,22 +52,22 @@ put_call p entry x before after true gave none full step = record {
 put_call p entry x before after false gave none full step = record {
   put = [];
   settings = (refl, refl);
-  room = ap (λ (b : Held). b.room) (none refl);
-  puts = ap (λ (b : Held). b.items) (none refl) ∙ sym (append-nil before.items);
-  full = λ e. subst (λ (b : Held). length b.items ≡ b.room) (sym (none refl)) (full refl);
+  room = ap (λ (b : BoxView). b.room) (none refl);
+  puts = ap (λ (b : BoxView). b.items) (none refl) ∙ sym (append-nil before.items);
+  full = λ e. subst (λ (b : BoxView). length b.items ≡ b.room) (sym (none refl)) (full refl);
   wants = tt;
   keeps = λ taken given h. subst (Amid p taken entry) (sym (append-nil given)) h;
 }
 
 -- the frames that end at most at t are closed by the entry
-abbrev Closes : ℤ → Entry → Type 0
-Closes t entry = (taken : List Entry) (e : ℤ) → e ≤ℤ t → due_after (taken ++ entry ∷ []) e ≡ true
+abbrev Closes : ℤ → CallEntry → Type 0
+Closes t entry = (taken : List CallEntry) (e : ℤ) → e ≤ℤ t → due_after (taken ++ entry ∷ []) e ≡ true
 
 -- after some frames were put
-moved : (p q : FrameP) (t : ℤ) (entry : Entry) (before after : List Item) (m : Moved p.vertex t p.held.entries before q.held.entries after) → Closes t entry → q.vertex ≡ p.vertex → q.policy ≡ p.policy → q.last ≡ p.last
-    → (taken : List Entry) (given : List Item) → Amid p taken entry given → Amid q taken entry (given ++ map (λ f. item.Frame (frame_of p.vertex f)) m.first)
+moved : (p q : FrameP) (t : ℤ) (entry : CallEntry) (before after : List Item) (m : Moved p.vertex t p.held.entries before q.held.entries after) → Closes t entry → q.vertex ≡ p.vertex → q.policy ≡ p.policy → q.last ≡ p.last
+    → (taken : List CallEntry) (given : List Item) → Amid p taken entry given → Amid q taken entry (given ++ map (λ f. item.Frame (frame_of p.vertex f)) m.first)
 moved p q t entry before after m closes v o l taken given h =
-    let told : List Entry = taken ++ entry ∷ [] in
+    let told : List CallEntry = taken ++ entry ∷ [] in
     let xs : List Item = given ++ map (λ f. item.Frame (frame_of p.vertex f)) m.first in
     let one : FrameStands p.vertex p.policy.slide p.last q.held.entries told taken xs = frames_given p.vertex p.policy.slide p.last m.first q.held.entries told taken given
     (Each-more (λ (f : Place × AccValue). f.0.0 ≤ℤ t) (λ (f : Place × AccValue). due_after told f.0.0 ≡ true) (λ f le. closes taken f.0.0 le) m.first m.closed)
@@ -76,7 +76,7 @@ moved p q t entry before after m closes v o l taken given h =
     let three : FrameStands q.vertex q.policy.slide p.last q.held.entries told taken xs = subst (λ (s : ℤ). FrameStands q.vertex s p.last q.held.entries told taken xs) (sym (ap (λ x. x.slide) o)) two in
     subst (λ (z : Option ℤ). FrameStands q.vertex q.policy.slide z q.held.entries told taken xs) (sym l) three
 
-pub moved_call : (p q : FrameP) (t : ℤ) (entry : Entry) (before after : Held) → (m : Moved p.vertex t p.held.entries before.items q.held.entries after.items) → Closes t entry → q.vertex ≡ p.vertex → q.policy ≡ p.policy → q.last ≡ p.last → after.room ≡ before.room → length after.items ≡ after.room → Call Stands Amid Alike false p entry before (Ok false) q after
+pub moved_call : (p q : FrameP) (t : ℤ) (entry : CallEntry) (before after : BoxView) → (m : Moved p.vertex t p.held.entries before.items q.held.entries after.items) → Closes t entry → q.vertex ≡ p.vertex → q.policy ≡ p.policy → q.last ≡ p.last → after.room ≡ before.room → length after.items ≡ after.room → Call Stands Amid Alike false p entry before (Ok false) q after
 moved_call p q t entry before after m closes v o l room full = record {
   put = map (λ f. item.Frame (frame_of p.vertex f)) m.first;
   settings = (v, o);
@@ -87,7 +87,7 @@ moved_call p q t entry before after m closes v o l room full = record {
   keeps = λ taken given h. moved p q t entry before.items after.items m closes v o l taken given h;
 }
 
-pub finish_call : (p q : FrameP) (t : ℤ) (before after : Held) (b : Bool) → (m : Moved p.vertex t p.held.entries before.items q.held.entries after.items) → q.vertex ≡ p.vertex → q.policy ≡ p.policy → q.last ≡ p.last → after.room ≡ before.room → (b ≡ true → q.held.entries ≡ []) → (b ≡ false → length after.items ≡ after.room) → Call Stands Amid Alike false p Finish before (Ok b) q after
+pub finish_call : (p q : FrameP) (t : ℤ) (before after : BoxView) (b : Bool) → (m : Moved p.vertex t p.held.entries before.items q.held.entries after.items) → q.vertex ≡ p.vertex → q.policy ≡ p.policy → q.last ≡ p.last → after.room ≡ before.room → (b ≡ true → q.held.entries ≡ []) → (b ≡ false → length after.items ≡ after.room) → Call Stands Amid Alike false p Finish before (Ok b) q after
 finish_call p q t before after true m v o l room none full = record {
   put = map (λ f. item.Frame (frame_of p.vertex f)) m.first;
   settings = (v, o);
@@ -99,22 +99,22 @@ finish_call p q t before after true m v o l room none full = record {
 }
 finish_call p q t before after false m v o l room none full = moved_call p q t Finish before after m (λ taken e le. finish_due taken e) v o l room (full refl)
 
-pub mark_call : (p q s : FrameP) (t : ℤ) (before middle after : Held) → (m : Moved p.vertex t p.held.entries before.items q.held.entries middle.items) → q.vertex ≡ p.vertex → q.policy ≡ p.policy → q.last ≡ p.last → middle.room ≡ before.room → StopsAbove t q.held.entries
-    → s.vertex ≡ q.vertex → s.policy ≡ q.policy → s.last ≡ Some t → s.held ≡ q.held → after ≡ record middle { items = middle.items ++ item.Mark t ∷ [] } → Call Stands Amid Alike false p (Told t) before (Ok true) s after
+pub mark_call : (p q s : FrameP) (t : ℤ) (before middle after : BoxView) → (m : Moved p.vertex t p.held.entries before.items q.held.entries middle.items) → q.vertex ≡ p.vertex → q.policy ≡ p.policy → q.last ≡ p.last → middle.room ≡ before.room → StopsAbove t q.held.entries
+    → s.vertex ≡ q.vertex → s.policy ≡ q.policy → s.last ≡ Some t → s.held ≡ q.held → after ≡ record middle { items = middle.items ++ item.Mark t ∷ [] } → Call Stands Amid Alike false p (MarkTold t) before (Ok true) s after
 mark_call p q s t before middle after m v o l room stops sv so sl sh put =
     let fs : List Item = map (λ f. item.Frame (frame_of p.vertex f)) m.first in
     record {
       put = fs ++ item.Mark t ∷ [];
       settings = (sv ∙ v, so ∙ o);
-      room = ap (λ (b : Held). b.room) put ∙ room;
-      puts = ap (λ (b : Held). b.items) put ∙ (ap (λ (xs : List Item). xs ++ item.Mark t ∷ []) m.puts ∙ append_assoc before.items fs (item.Mark t ∷ []));
+      room = ap (λ (b : BoxView). b.room) put ∙ room;
+      puts = ap (λ (b : BoxView). b.items) put ∙ (ap (λ (xs : List Item). xs ++ item.Mark t ∷ []) m.puts ∙ append_assoc before.items fs (item.Mark t ∷ []));
       full = λ e. absurd (ok_apart e);
       wants = tt;
       keeps = λ taken given h.
-          let a : Amid q taken (Told t) (given ++ fs) = moved p q t (Told t) before.items middle.items m (λ taken e le. told_due taken t e le) v o l taken given h in
-          let b : FrameStands q.vertex q.policy.slide (Some t) q.held.entries (taken ++ Told t ∷ []) (taken ++ Told t ∷ []) ((given ++ fs) ++ item.Mark t ∷ []) =
-          frame_mark q.vertex q.policy.slide q.last q.held.entries (taken ++ Told t ∷ []) taken (given ++ fs) t stops a in
-          let c : FrameStands q.vertex q.policy.slide (Some t) q.held.entries (taken ++ Told t ∷ []) (taken ++ Told t ∷ []) (given ++ (fs ++ item.Mark t ∷ [])) = subst (FrameStands q.vertex q.policy.slide (Some t) q.held.entries (taken ++ Told t ∷ []) (taken ++ Told t ∷ [])) (append_assoc given fs (item.Mark t ∷ [])) b in
+          let a : Amid q taken (MarkTold t) (given ++ fs) = moved p q t (MarkTold t) before.items middle.items m (λ taken e le. told_due taken t e le) v o l taken given h in
+          let b : FrameStands q.vertex q.policy.slide (Some t) q.held.entries (taken ++ MarkTold t ∷ []) (taken ++ MarkTold t ∷ []) ((given ++ fs) ++ item.Mark t ∷ []) =
+          frame_mark q.vertex q.policy.slide q.last q.held.entries (taken ++ MarkTold t ∷ []) taken (given ++ fs) t stops a in
+          let c : FrameStands q.vertex q.policy.slide (Some t) q.held.entries (taken ++ MarkTold t ∷ []) (taken ++ MarkTold t ∷ []) (given ++ (fs ++ item.Mark t ∷ [])) = subst (FrameStands q.vertex q.policy.slide (Some t) q.held.entries (taken ++ MarkTold t ∷ []) (taken ++ MarkTold t ∷ [])) (append_assoc given fs (item.Mark t ∷ [])) b in
           rw (sv, ap (λ x. x.slide) so, sl, ap (λ x. x.entries) sh) c;
     }
 
@@ -128,10 +128,10 @@ not_event item.Idle h k = k
 not_event (item.Mark e) h k = k
 not_event item.Done h k = k
 
-pub pass_call : (p : FrameP) (port : Port) (q : ℕ) (x : Item) (before after : Held) (b : Bool) → (IsEvent x → ⊥) → IsData x → (b ≡ true → after ≡ record before { items = before.items ++ x ∷ [] }) → (b ≡ false → after ≡ before) → (b ≡ false → length before.items ≡ before.room) → Call Stands Amid Alike false p (Given port q x) before (Ok b) p after
+pub pass_call : (p : FrameP) (port : Port) (q : ℕ) (x : Item) (before after : BoxView) (b : Bool) → (IsEvent x → ⊥) → IsData x → (b ≡ true → after ≡ record before { items = before.items ++ x ∷ [] }) → (b ≡ false → after ≡ before) → (b ≡ false → length before.items ≡ before.room) → Call Stands Amid Alike false p (Given port q x) before (Ok b) p after
 pass_call p port q x before after b none data_is gave not full = put_call p (Given port q x) x before after b gave not full (λ taken given h. frame_pass p.vertex p.policy.slide p.last p.held.entries (taken ++ Given port q x ∷ []) taken given port q x none data_is h)
 
-pub late_call : (p : FrameP) (port : Port) (q : ℕ) (e : EventValue) (before after : Held) (b : Bool) → pos 1 ≤ℤ p.policy.slide → is_late p.policy.slide p.last e.ts ≡ true
+pub late_call : (p : FrameP) (port : Port) (q : ℕ) (e : EventValue) (before after : BoxView) (b : Bool) → pos 1 ≤ℤ p.policy.slide → is_late p.policy.slide p.last e.ts ≡ true
     → (let l : LateValue = record { vertex = p.vertex; event = e } in b ≡ true → after ≡ record before { items = before.items ++ item.Late l ∷ [] }) → (b ≡ false → after ≡ before) → (b ≡ false → length before.items ≡ before.room)
     → Call Stands Amid Alike false p (Given port q (item.Event e)) before (Ok b) p after
 late_call p port q e before after b low late gave not full = put_call p (Given port q (item.Event e)) (item.Late (record { vertex = p.vertex; event = e })) before after b gave not full (λ taken given h. frame_late p.vertex p.policy.slide p.last p.held.entries (taken ++ Given port q (item.Event e) ∷ []) taken given port q e low late h)
@@ -144,7 +144,7 @@ first_within (v ∷ vs) h = h.0
 shares : (vertex : ℕ) (end : ℤ) (key : List ℕ) (t : Table) → total (frame_at end key) (map (frame_of vertex) t) ≡ total (λ (f : Place × AccValue). only (bytes_eq f.0.1 key && int_eq f.0.0 end) f.1) t
 shares vertex end key t = total-map (frame_at end key) (frame_of vertex) t
 
-pub kept_call : (p s : FrameP) (port : Port) (q : ℕ) (e : EventValue) (before : Held) → pos 1 ≤ℤ p.policy.slide → is_late p.policy.slide p.last e.ts ≡ false → IsWithin most_frame_end (frame_end p.policy.slide e.ts)
+pub kept_call : (p s : FrameP) (port : Port) (q : ℕ) (e : EventValue) (before : BoxView) → pos 1 ≤ℤ p.policy.slide → is_late p.policy.slide p.last e.ts ≡ false → IsWithin most_frame_end (frame_end p.policy.slide e.ts)
     → s.vertex ≡ p.vertex → s.policy ≡ p.policy → s.last ≡ p.last → s.held.entries ≡ joined_in p.held.entries (frame_end p.policy.slide e.ts, e.key) (one (first_value e)) → Call Stands Amid Alike false p (Given port q (item.Event e)) before (Ok true) s before
 kept_call p s port q e before low late range v o l held =
     let k : Place = (frame_end p.policy.slide e.ts, e.key) in
@@ -169,7 +169,7 @@ kept_call p s port q e before low late range v o l held =
     }
 
 -- a queue ends
-pub close_call : (p : FrameP) (port : Port) (q : ℕ) (before : Held) → Call Stands Amid Alike false p (Closed port q) before (Ok true) p before
+pub close_call : (p : FrameP) (port : Port) (q : ℕ) (before : BoxView) → Call Stands Amid Alike false p (QueueClosed port q) before (Ok true) p before
 close_call p port q before = record {
   put = [];
   settings = (refl, refl);
@@ -177,7 +177,7 @@ close_call p port q before = record {
   puts = sym (append-nil before.items);
   full = λ e. absurd (ok_apart e);
   wants = tt;
-  keeps = λ taken given h. subst (Stands p (taken ++ Closed port q ∷ [])) (sym (append-nil given)) (frame_close p.vertex p.policy.slide p.last p.held.entries (taken ++ Closed port q ∷ []) taken given port q h);
+  keeps = λ taken given h. subst (Stands p (taken ++ QueueClosed port q ∷ [])) (sym (append-nil given)) (frame_close p.vertex p.policy.slide p.last p.held.entries (taken ++ QueueClosed port q ∷ []) taken given port q h);
 }
 
 -- no frame ends above a time beyond the range of frames
@@ -190,7 +190,7 @@ none_left vertex old (f ∷ fs) before after t m kept high stops =
     absurd (omega (arith, ints))
 
 -- a call that wanted memory
-pub err_call : (p s : FrameP) (entry : Entry) (before : Held) (r : Result Bool NoMemory) → IsErr r → s.vertex ≡ p.vertex → s.policy ≡ p.policy → s.last ≡ p.last → s.held.entries ≡ p.held.entries → Call Stands Amid Alike false p entry before r s before
+pub err_call : (p s : FrameP) (entry : CallEntry) (before : BoxView) (r : Result Bool NoMemory) → IsErr r → s.vertex ≡ p.vertex → s.policy ≡ p.policy → s.last ≡ p.last → s.held.entries ≡ p.held.entries → Call Stands Amid Alike false p entry before r s before
 err_call p s entry before (Ok b) h v o l held = absurd (ok_no_err b h)
   where
     ok_no_err : (b : Bool) → (let yes : Result Bool NoMemory = Ok b in IsErr yes) → ⊥

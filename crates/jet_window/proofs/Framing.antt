@@ -20,7 +20,7 @@ use Rattle.jet_items.proofs.GridLemmas.{floor_is, frame_end_is, multiple_apart}
 use Rattle.jet_items.proofs.Orders.{Each-append, Each-more, Each-back, EachPair-append, EachPair-front, EachPair-across}
 use Rattle.jet_items.proofs.Totaling.{both_none, both_comm, both_swap, total-append}
 use Rattle.jet_boxes.specs.declared.port.Port.{Port}
-use Rattle.jet_boxes.specs.Entry.{Entry, Given, Told, Closed, Finish, items_of, entry_items, IsData, NotDone}
+use Rattle.jet_boxes.specs.Entry.{CallEntry, Given, MarkTold, QueueClosed, Finish, items_of, entry_items, IsData, NotDone}
 use Rattle.jet_window.specs.Idles.{as_idle, idles_of}
 use Rattle.jet_window.specs.FrameStands.{FrameStands, IsEvent, NoEvent}
 use Rattle.jet_window.specs.FrameTables.{Table, frame_of, FramesRise, Ordered, IsKept}
@@ -40,7 +40,7 @@ brought_push f last (y ∷ xs) x =
     ∙ sym (append_assoc (f last y) (brought f (last_from last (as_mark y)) xs) (f (last_from last (marks_of (y ∷ xs))) x))
 
 -- the same of one more entry, told the last mark
-pub brought_entry : {X : Type 0} (f : Option ℤ → Item → List X) (last : Option ℤ) (taken : List Entry) (port : Port) (q : ℕ) (x : Item) → last ≡ last_mark taken
+pub brought_entry : {X : Type 0} (f : Option ℤ → Item → List X) (last : Option ℤ) (taken : List CallEntry) (port : Port) (q : ℕ) (x : Item) → last ≡ last_mark taken
     → brought f None (items_of (taken ++ Given port q x ∷ [])) ≡ brought f None (items_of taken) ++ f last x
 brought_entry f last taken port q x tie =
     ap (λ (xs : List Item). brought f None xs) (items_push taken (Given port q x))
@@ -72,7 +72,7 @@ few_given own v f fs n h = omega (arith, h, length-append own (v ∷ []))
 few_kept : {X : Type 0} (own held held' n : ℕ) (xs : List X) (x : X) → own + held ≤ n → length xs ≡ n → held' ≤ held + 1 → own + held' ≤ length (xs ++ x ∷ [])
 few_kept own held held' n xs x h is less = omega (arith, h, is, less, length-append xs (x ∷ []))
 
-pub frame_given : (vertex : ℕ) (slide : ℤ) (last : Option ℤ) (f : Place × AccValue) (fs : Table) (told taken : List Entry) (given : List Item) → due_after told f.0.0 ≡ true
+pub frame_given : (vertex : ℕ) (slide : ℤ) (last : Option ℤ) (f : Place × AccValue) (fs : Table) (told taken : List CallEntry) (given : List Item) → due_after told f.0.0 ≡ true
     → FrameStands vertex slide last (f ∷ fs) told taken given → FrameStands vertex slide last fs told taken (given ++ item.Frame (frame_of vertex f) ∷ [])
 frame_given vertex slide last f fs told taken given now h =
     let v : FrameValue = frame_of vertex f in
@@ -105,7 +105,7 @@ frame_given vertex slide last f fs told taken given now h =
     }
 
 -- some first frames are given
-pub frames_given : (vertex : ℕ) (slide : ℤ) (last : Option ℤ) (first new : Table) (told taken : List Entry) (given : List Item) → Each (λ (f : Place × AccValue). due_after told f.0.0 ≡ true) first
+pub frames_given : (vertex : ℕ) (slide : ℤ) (last : Option ℤ) (first new : Table) (told taken : List CallEntry) (given : List Item) → Each (λ (f : Place × AccValue). due_after told f.0.0 ≡ true) first
     → FrameStands vertex slide last (first ++ new) told taken given → FrameStands vertex slide last new told taken (given ++ map (λ f. item.Frame (frame_of vertex f)) first)
 frames_given vertex slide last [] new told taken given now h = subst (FrameStands vertex slide last new told taken) (sym (append-nil given)) h
 frames_given vertex slide last (f ∷ fs) new told taken given now h =
@@ -114,7 +114,7 @@ frames_given vertex slide last (f ∷ fs) new told taken given now h =
 
 -- ---- a late event
 -- a late event is behind
-late_behind : (behind : ℕ → ℕ → Bool) (slide : ℤ) (last : Option ℤ) (taken : List Entry) (port : Port) (q : ℕ) (e : EventValue) → pos 1 ≤ℤ slide → last ≡ last_mark taken → is_late slide last e.ts ≡ true → Sound behind (items_of (taken ++ Given port q (item.Event e) ∷ [])) → behind e.part e.line ≡ true
+late_behind : (behind : ℕ → ℕ → Bool) (slide : ℤ) (last : Option ℤ) (taken : List CallEntry) (port : Port) (q : ℕ) (e : EventValue) → pos 1 ≤ℤ slide → last ≡ last_mark taken → is_late slide last e.ts ≡ true → Sound behind (items_of (taken ++ Given port q (item.Event e) ∷ [])) → behind e.part e.line ≡ true
 late_behind behind slide None taken port q e low tie h s = absurd (cc)
 late_behind behind slide (Some w) taken port q e low tie h s =
     let floor : IsFloor slide w (floor_to slide w) = floor_is slide w low in
@@ -136,10 +136,10 @@ late_free : (l : LateValue) (ws : List ℤ) → Each (λ w. Each (IsAbove w) (it
 late_free l [] = tt
 late_free l (w ∷ ws) = ((tt, tt), late_free l ws)
 
-pub frame_late : (vertex : ℕ) (slide : ℤ) (last : Option ℤ) (held : Table) (told taken : List Entry) (given : List Item) (port : Port) (q : ℕ) (e : EventValue) → pos 1 ≤ℤ slide → is_late slide last e.ts ≡ true
+pub frame_late : (vertex : ℕ) (slide : ℤ) (last : Option ℤ) (held : Table) (told taken : List CallEntry) (given : List Item) (port : Port) (q : ℕ) (e : EventValue) → pos 1 ≤ℤ slide → is_late slide last e.ts ≡ true
     → FrameStands vertex slide last held told taken given → FrameStands vertex slide last held told (taken ++ Given port q (item.Event e) ∷ []) (given ++ item.Late (record { vertex = vertex; event = e }) ∷ [])
 frame_late vertex slide last held told taken given port q e low late h =
-    let n : Entry = Given port q (item.Event e) in
+    let n : CallEntry = Given port q (item.Event e) in
     let l : LateValue = record { vertex = vertex; event = e } in
     let x : List Item = item.Late l ∷ [] in
     let same_marks : marks_of (given ++ x) ≡ marks_of given = of_none as_mark given (item.Late l) refl in
@@ -207,12 +207,12 @@ kept_above slide (Some w) ts low h =
     let over : w <ℤ (floor_to slide w +ℤ slide) = next.above in
     false_from (int_le (frame_end slide ts) w) (Decides-int_le (frame_end slide ts) w) (λ le. absurd (omega (arith, ints)))
 
-pub frame_kept : (vertex : ℕ) (slide : ℤ) (last : Option ℤ) (held held' : Table) (told taken : List Entry) (given : List Item) (port : Port) (q : ℕ) (e : EventValue) → is_late slide last e.ts ≡ false
+pub frame_kept : (vertex : ℕ) (slide : ℤ) (last : Option ℤ) (held held' : Table) (told taken : List CallEntry) (given : List Item) (port : Port) (q : ℕ) (e : EventValue) → is_late slide last e.ts ≡ false
     → ((end : ℤ) (key : List ℕ) → total (frame_at end key) (map (frame_of vertex) held') ≡ both (event_at slide end key e) (total (frame_at end key) (map (frame_of vertex) held)))
     → length held' ≤ length held + 1 → IsKept held' → Each (λ (f : Place × AccValue). is_due last f.0.0 ≡ false) held' → (StageInput told → (d : ℤ) → due_after told d ≡ true → is_due last d ≡ true)
     → FrameStands vertex slide last held told taken given → FrameStands vertex slide last held' told (taken ++ Given port q (item.Event e) ∷ []) given
 frame_kept vertex slide last held held' told taken given port q e late grows less kept above passed h =
-    let n : Entry = Given port q (item.Event e) in
+    let n : CallEntry = Given port q (item.Event e) in
     let push = items_push taken n in
     let more : kept_events slide None (items_of (taken ++ n ∷ [])) ≡ kept_events slide None (items_of taken) ++ e ∷ [] =
     brought_entry (kept_by slide None) last taken port q (item.Event e) h.tie ∙ ap (λ (us : List EventValue). kept_events slide None (items_of taken) ++ us) (pick_false (is_late slide last e.ts) [] (e ∷ []) late) in
@@ -254,10 +254,10 @@ frame_kept vertex slide last held held' told taken given port q e late grows les
     }
 
 -- ---- a mark
-pub frame_mark : (vertex : ℕ) (slide : ℤ) (last : Option ℤ) (held : Table) (told taken : List Entry) (given : List Item) (t : ℤ) → Each (λ (f : Place × AccValue). t <ℤ f.0.0) held
-    → FrameStands vertex slide last held told taken given → FrameStands vertex slide (Some t) held told (taken ++ Told t ∷ []) (given ++ item.Mark t ∷ [])
+pub frame_mark : (vertex : ℕ) (slide : ℤ) (last : Option ℤ) (held : Table) (told taken : List CallEntry) (given : List Item) (t : ℤ) → Each (λ (f : Place × AccValue). t <ℤ f.0.0) held
+    → FrameStands vertex slide last held told taken given → FrameStands vertex slide (Some t) held told (taken ++ MarkTold t ∷ []) (given ++ item.Mark t ∷ [])
 frame_mark vertex slide last held told taken given t above h =
-    let n : Entry = Told t in
+    let n : CallEntry = MarkTold t in
     let m : Item = item.Mark t in
     let x : List Item = m ∷ [] in
     let push = items_push taken n in
@@ -322,10 +322,10 @@ late_passes vertex slide last item.Idle h = refl
 late_passes vertex slide last (item.Mark e) h = refl
 late_passes vertex slide last item.Done h = refl
 
-pub frame_pass : (vertex : ℕ) (slide : ℤ) (last : Option ℤ) (held : Table) (told taken : List Entry) (given : List Item) (port : Port) (q : ℕ) (x : Item) → (IsEvent x → ⊥) → IsData x
+pub frame_pass : (vertex : ℕ) (slide : ℤ) (last : Option ℤ) (held : Table) (told taken : List CallEntry) (given : List Item) (port : Port) (q : ℕ) (x : Item) → (IsEvent x → ⊥) → IsData x
     → FrameStands vertex slide last held told taken given → FrameStands vertex slide last held told (taken ++ Given port q x ∷ []) (given ++ x ∷ [])
 frame_pass vertex slide last held told taken given port q x none data_is h =
-    let n : Entry = Given port q x in
+    let n : CallEntry = Given port q x in
     let push = items_push taken n in
     let same_marks : marks_of (given ++ x ∷ []) ≡ marks_of given = of_none as_mark given x (marks_none x data_is) in
     record {
@@ -359,7 +359,7 @@ frame_pass vertex slide last held told taken given port q x none data_is h =
 
 -- ---- a queue ends, all end
 -- an entry that brings no item
-pub frame_entry : (vertex : ℕ) (slide : ℤ) (last : Option ℤ) (held : Table) (told taken : List Entry) (given : List Item) (n : Entry) → entry_items n ≡ [] → ((front : List Entry) → taken ++ n ∷ [] ≡ front ++ Finish ∷ [] → held ≡ [])
+pub frame_entry : (vertex : ℕ) (slide : ℤ) (last : Option ℤ) (held : Table) (told taken : List CallEntry) (given : List Item) (n : CallEntry) → entry_items n ≡ [] → ((front : List CallEntry) → taken ++ n ∷ [] ≡ front ++ Finish ∷ [] → held ≡ [])
     → FrameStands vertex slide last held told taken given → FrameStands vertex slide last held told (taken ++ n ∷ []) given
 frame_entry vertex slide last held told taken given n none ended h =
     let same : items_of (taken ++ n ∷ []) ≡ items_of taken = items_push taken n ∙ (ap (λ (xs : List Item). items_of taken ++ (xs ++ [])) none ∙ append-nil (items_of taken)) in
@@ -388,10 +388,10 @@ frame_entry vertex slide last held told taken given n none ended h =
       kept = h.kept;
     }
 
-pub frame_close : (vertex : ℕ) (slide : ℤ) (last : Option ℤ) (held : Table) (told taken : List Entry) (given : List Item) (port : Port) (q : ℕ) → FrameStands vertex slide last held told taken given → FrameStands vertex slide last held told (taken ++ Closed port q ∷ []) given
-frame_close vertex slide last held told taken given port q h = frame_entry vertex slide last held told taken given (Closed port q) refl (λ front is. absurd (not_last taken (Closed port q) tt front is)) h
+pub frame_close : (vertex : ℕ) (slide : ℤ) (last : Option ℤ) (held : Table) (told taken : List CallEntry) (given : List Item) (port : Port) (q : ℕ) → FrameStands vertex slide last held told taken given → FrameStands vertex slide last held told (taken ++ QueueClosed port q ∷ []) given
+frame_close vertex slide last held told taken given port q h = frame_entry vertex slide last held told taken given (QueueClosed port q) refl (λ front is. absurd (not_last taken (QueueClosed port q) tt front is)) h
 
-pub frame_finish : (vertex : ℕ) (slide : ℤ) (last : Option ℤ) (held : Table) (told taken : List Entry) (given : List Item) → held ≡ [] → FrameStands vertex slide last held told taken given → FrameStands vertex slide last held told (taken ++ Finish ∷ []) given
+pub frame_finish : (vertex : ℕ) (slide : ℤ) (last : Option ℤ) (held : Table) (told taken : List CallEntry) (given : List Item) → held ≡ [] → FrameStands vertex slide last held told taken given → FrameStands vertex slide last held told (taken ++ Finish ∷ []) given
 frame_finish vertex slide last held told taken given none h = frame_entry vertex slide last held told taken given Finish refl (λ front is. none) h
 
 pub frame_new : (vertex : ℕ) (slide : ℤ) → FrameStands vertex slide None [] [] [] []

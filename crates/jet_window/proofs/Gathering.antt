@@ -25,7 +25,7 @@ use Rattle.jet_items.proofs.Covering.{members_total, IsTotalOf, false_from, Deci
 use Rattle.jet_items.proofs.Totaling.{total-append, total-middle, total-SameBag, both_none}
 use Rattle.jet_policy.specs.Policy.{IsPolicy}
 use Rattle.jet_window.specs.InOrder.{IsInOrder}
-use Rattle.jet_window.specs.StageLaws.{OrderedAreRows, RowsOver, inflows}
+use Rattle.jet_window.specs.StageLaws.{OrderedAreRows, RowsOver, instance_inflows}
 use Rattle.jet_window.specs.Tables.{is_multiple}
 use Rattle.jet_window.specs.WindowRows.{as_list, rows_at}
 use Rattle.jet_window.proofs.Between.{any_left, any_right}
@@ -146,19 +146,19 @@ each_split : {X : Type 0} (P : X → Type 0) (xs : List X) → ((front : List X)
 each_split P [] h = tt
 each_split P (x ∷ xs) h = (h [] x xs refl, each_split P xs (λ front y back is. h (x ∷ front) y back (ap (λ (ys : List _). x ∷ ys) is)))
 
-any_of : (P : Inflow → Type 0) (n : ℕ) (entered : ℕ → Inflow) (j : ℕ) → j < n → P (entered j) → Any P (inflows n entered)
+any_of : (P : Inflow → Type 0) (n : ℕ) (entered : ℕ → Inflow) (j : ℕ) → j < n → P (entered j) → Any P (instance_inflows n entered)
 any_of P zero entered j lt p = absurd (omega arith)
 any_of P (suc n) entered j lt p = last (j == n) refl (λ below. any_of P n entered j below p)
   where
-    last : (b : Bool) → (j == n) ≡ b → (j < n → Any P (inflows n entered)) → Any P (inflows n entered ++ entered n ∷ [])
-    last true is ih = any_right P (inflows n entered) (entered n ∷ []) (0, entered n, omega arith, refl, subst (λ (k : ℕ). P (entered k)) ((Decides-eqb j n).0 is) p)
+    last : (b : Bool) → (j == n) ≡ b → (j < n → Any P (instance_inflows n entered)) → Any P (instance_inflows n entered ++ entered n ∷ [])
+    last true is ih = any_right P (instance_inflows n entered) (entered n ∷ []) (0, entered n, omega arith, refl, subst (λ (k : ℕ). P (entered k)) ((Decides-eqb j n).0 is) p)
     last false is ih =
         let other : j ≡ n → ⊥ = λ eq. apart (j == n) ((Decides-eqb j n).1 eq) is in
-        any_left P (inflows n entered) (entered n ∷ []) (ih (omega (arith, other)))
+        any_left P (instance_inflows n entered) (entered n ∷ []) (ih (omega (arith, other)))
 
-all_in : (P : Inflow → Type 0) (n : ℕ) (entered : ℕ → Inflow) → ((j : ℕ) → j < n → P (entered j)) → All P (inflows n entered)
+all_in : (P : Inflow → Type 0) (n : ℕ) (entered : ℕ → Inflow) → ((j : ℕ) → j < n → P (entered j)) → All P (instance_inflows n entered)
 all_in P zero entered h = All-nil P
-all_in P (suc n) entered h = All-append P (inflows n entered) (entered n ∷ []) (all_in P n entered (λ j lt. h j (omega arith))) (All-cons P (entered n) [] (h n (omega arith)) (All-nil P))
+all_in P (suc n) entered h = All-append P (instance_inflows n entered) (entered n ∷ []) (all_in P n entered (λ j lt. h j (omega arith))) (All-cons P (entered n) [] (h n (omega arith)) (All-nil P))
 
 -- a row that stands is found
 find_hit : (v : ℕ) (e : ℤ) (key : List ℕ) (xs : List RowValue) → (sum_by (hit v e key) xs ≡ 0 → ⊥) → Any (λ (r : RowValue). (r.vertex ≡ v) × (r.end ≡ e) × (r.key ≡ key)) xs
@@ -315,7 +315,7 @@ module _ (n : ℕ) (entered : ℕ → Inflow) (parts : ℕ → List RowValue) (r
   own_share : (r : RowValue) → share r.vertex r.end r.key r ≡ Some r.acc
   own_share r = ap (λ (b : Bool). only b r.acc) ((at_decides r.vertex r.end r.key r).1 (refl, (refl, refl)))
 
-  is_row : (front : List RowValue) (r : RowValue) (back : List RowValue) → rows ≡ front ++ r ∷ back → Any (λ (p : Inflow). IsRowOf p.window p.events r) (inflows n entered)
+  is_row : (front : List RowValue) (r : RowValue) (back : List RowValue) → rows ≡ front ++ r ∷ back → Any (λ (p : Inflow). IsRowOf p.window p.events r) (instance_inflows n entered)
   is_row front r back is =
       let one = of_one front r back is in
       let i : ℕ = one.0 in
@@ -349,7 +349,7 @@ module _ (n : ℕ) (entered : ℕ → Inflow) (parts : ℕ → List RowValue) (r
 
 pub ordered_are_rows : OrderedAreRows
 ordered_are_rows n entered parts rows grid distinct over bag order = record {
-  each = All-from_recursion (λ (r : RowValue). Any (λ (p : Inflow). IsRowOf p.window p.events r) (inflows n entered)) rows (each_split (λ (r : RowValue). Any (λ (p : Inflow). IsRowOf p.window p.events r) (inflows n entered)) rows (is_row n entered parts rows grid distinct over bag));
+  each = All-from_recursion (λ (r : RowValue). Any (λ (p : Inflow). IsRowOf p.window p.events r) (instance_inflows n entered)) rows (each_split (λ (r : RowValue). Any (λ (p : Inflow). IsRowOf p.window p.events r) (instance_inflows n entered)) rows (is_row n entered parts rows grid distinct over bag));
   complete = all_in (λ (p : Inflow). All (λ x. (end : ℤ) → IsEndFor p.window.size p.window.slide x.ts end → HasRow rows p.window end x.key) p.events) n entered
       (λ i lt. All-from_recursion (λ (x : EventValue). (end : ℤ) → IsEndFor (entered i).window.size (entered i).window.slide x.ts end → HasRow rows (entered i).window end x.key) (entered i).events
       (each_split (λ (x : EventValue). (end : ℤ) → IsEndFor (entered i).window.size (entered i).window.slide x.ts end → HasRow rows (entered i).window end x.key) (entered i).events (has_row n entered parts rows grid distinct over bag i lt)));

@@ -14,8 +14,8 @@ use Rattle.jet_window.specs.FrameTables.{Table, held_in}
 use Rattle.jet_window.specs.Tables.{Place, is_multiple}
 use Rattle.jet_window.specs.Taken.{is_due, InOpenWindow}
 use Rattle.jet_window.specs.Combining.{Forgets, Clear, Passes, OpenAbove}
-use Rattle.jet_window.specs.NextEnds.{IsNextEnd, HeldUntil, gap}
-use Rattle.jet_window.specs.WindowOf.{WindowOf}
+use Rattle.jet_window.specs.inner.NextEnds.{IsNextEnd, HeldUntil, gap}
+use Rattle.jet_window.specs.inner.WindowOf.{WindowOf}
 use Rattle.jet_window.specs.CombineStands.{Combine, Gave, PutsReady}
 use Rattle.jet_window.proofs.Standing.{Gave-trans, Gave-put, Gave-forget, Gave-up}
 use Rattle.jet_window.specs.CombineView.{combine_of}

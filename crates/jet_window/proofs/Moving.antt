@@ -6,7 +6,7 @@ use Rattle.jet_items.proofs.Orders.{Each-append}
 use Rattle.jet_items.specs.declared.item.Item.TheVariants as item
 use Rattle.jet_window.specs.Tables.{Place}
 use Rattle.jet_window.specs.FrameTables.{Table, frame_of}
-use Rattle.jet_window.specs.FrameMoves.{Moved}
+use Rattle.jet_window.specs.inner.FrameMoves.{Moved}
 use Rattle.jet_window.proofs.Windowing.{map_push}
 
 pub Moved-more : (vertex : ℕ) (t : ℤ) (old : Table) (before : List Item) (held : Table) (middle : List Item) (f : Place × AccValue) (new : Table) (after : List Item) → f.0.0 ≤ℤ t → Moved vertex t old before held middle → held ≡ f ∷ new → after ≡ middle ++ item.Frame (frame_of vertex f) ∷ [] → Moved vertex t old before new after

@@ -14,7 +14,7 @@ use Rattle.jet_items.specs.declared.item.Item.TheVariants as item
 use Rattle.jet_items.proofs.Covering.{Decides-int_le, false_from}
 use Rattle.jet_items.proofs.Orders.{Each-more, Each-front, Each-back, Shadows-refl}
 use Rattle.jet_boxes.specs.declared.port.Port.{Port}
-use Rattle.jet_boxes.specs.Entry.{Entry, Given, Told, Closed, Finish, items_of, NotFinish, IsData}
+use Rattle.jet_boxes.specs.Entry.{CallEntry, Given, MarkTold, QueueClosed, Finish, items_of, NotFinish, IsData}
 use Rattle.jet_window.specs.CombineLaws.{no_pending, given_promised}
 use Rattle.jet_window.specs.CombineStands.{IsFrame, Combine, CombineStands, HeldOpen, Marking, Finishing, Promises, PromisesAfter, Gave, PutsReady, pending}
 use Rattle.jet_window.specs.Combining.{Forgets, TakesUp, Clear, Passes, OpenAbove}
@@ -27,7 +27,7 @@ use Rattle.jet_window.proofs.Ending.{window_above}
 use Rattle.jet_window.proofs.Promising.{weaker, Promises-up, Promises-pass, Promises-frame, Promises-mark}
 
 -- a frame that is taken next ends above what passed
-tie_later : (taken : List Entry) (port : Port) (q : ℕ) (f : FrameValue) (o : Option ℤ) → o ≡ last_mark taken → StageInput (taken ++ Given port q (item.Frame f) ∷ []) → is_due o f.end ≡ false
+tie_later : (taken : List CallEntry) (port : Port) (q : ℕ) (f : FrameValue) (o : Option ℤ) → o ≡ last_mark taken → StageInput (taken ++ Given port q (item.Frame f) ∷ []) → is_due o f.end ≡ false
 tie_later taken port q f None is h = refl
 tie_later taken port q f (Some p) is h =
     let below : Each (λ w. w <ℤ f.end) (marks_of (items_of taken)) = Each-more (λ w. Each (IsAbove w) (item.Frame f ∷ [])) (λ w. w <ℤ f.end) (λ w k. k.0) (marks_of (items_of taken)) (input_above taken (Given port q (item.Frame f)) h) in
@@ -127,16 +127,16 @@ Gave-up p xs e ready none range up = record {
 
 -- ---- the calls
 -- what is due is as before
-open_still : (size slide : ℤ) (taken more : List Entry) (held : Table) → ((d : ℤ) → due_after more d ≡ due_after taken d) → Each (λ (f : Place × AccValue). InOpenWindow size slide (due_after taken) f.0.0) held → Each (λ (f : Place × AccValue). InOpenWindow size slide (due_after more) f.0.0) held
+open_still : (size slide : ℤ) (taken more : List CallEntry) (held : Table) → ((d : ℤ) → due_after more d ≡ due_after taken d) → Each (λ (f : Place × AccValue). InOpenWindow size slide (due_after taken) f.0.0) held → Each (λ (f : Place × AccValue). InOpenWindow size slide (due_after more) f.0.0) held
 open_still size slide taken more held same h =
     Each-more (λ (f : Place × AccValue). InOpenWindow size slide (due_after taken) f.0.0) (λ (f : Place × AccValue). InOpenWindow size slide (due_after more) f.0.0) (λ f w. (w.0, w.1, w.2, same w.0 ∙ w.3)) held h
 
-pub stands_frame : (p : Combine) (taken : List Entry) (given : List Item) (port : Port) (q : ℕ) (f : FrameValue) (held' : Table)
+pub stands_frame : (p : Combine) (taken : List CallEntry) (given : List Item) (port : Port) (q : ℕ) (f : FrameValue) (held' : Table)
     → ((d : ℤ) (key : List ℕ) → IsKept p.held → total (held_in p.size d key) held' ≡ both (frame_in p.size d key f) (total (held_in p.size d key) p.held)) → (IsKept p.held → IsKept held')
     → ((P : Place → Type 0) → Each (λ (g : Place × AccValue). P g.0) p.held → P (f.end, f.key) → Each (λ (g : Place × AccValue). P g.0) held')
     → CombineStands p taken given → CombineStands (record p { held = held' }) (taken ++ Given port q (item.Frame f) ∷ []) (given ++ [])
 stands_frame p taken given port q f held' grows kept adds h =
-    let e : Entry = Given port q (item.Frame f) in
+    let e : CallEntry = Given port q (item.Frame f) in
     let old : Promises p.vertex p.size p.slide p.passed p.held given (StageInput taken) (items_of taken) = given_promised p taken given h in
     let later : StageInput (taken ++ e ∷ []) → is_due p.passed f.end ≡ false = λ i. tie_later taken port q f p.passed (h.tie (input_open taken e i)) i in
     let new : Promises p.vertex p.size p.slide p.passed held' given (StageInput (taken ++ e ∷ [])) (items_of taken ++ item.Frame f ∷ []) =
@@ -156,9 +156,9 @@ stands_frame p taken given port q f held' grows kept adds h =
     }
 
 -- what passes as it is
-pub stands_pass : (p : Combine) (taken : List Entry) (given : List Item) (port : Port) (q : ℕ) (x : Item) → (IsFrame x → ⊥) → IsData x → CombineStands p taken given → CombineStands p (taken ++ Given port q x ∷ []) (given ++ x ∷ [])
+pub stands_pass : (p : Combine) (taken : List CallEntry) (given : List Item) (port : Port) (q : ℕ) (x : Item) → (IsFrame x → ⊥) → IsData x → CombineStands p taken given → CombineStands p (taken ++ Given port q x ∷ []) (given ++ x ∷ [])
 stands_pass p taken given port q x not data_is h =
-    let e : Entry = Given port q x in
+    let e : CallEntry = Given port q x in
     let new : Promises p.vertex p.size p.slide p.passed p.held (given ++ x ∷ []) (StageInput (taken ++ e ∷ [])) (items_of taken ++ x ∷ []) =
     Promises-pass p.vertex p.size p.slide p.passed p.held given (StageInput (taken ++ e ∷ [])) (items_of taken) x not data_is (weaker (input_front taken e) (given_promised p taken given h)) in
     let moved : Promises p.vertex p.size p.slide p.passed p.held (given ++ x ∷ []) (StageInput (taken ++ e ∷ [])) (items_of (taken ++ e ∷ [])) =
@@ -173,9 +173,9 @@ stands_pass p taken given port q x not data_is h =
     }
 
 -- a queue ends
-pub stands_close : (p : Combine) (taken : List Entry) (given : List Item) (port : Port) (q : ℕ) → CombineStands p taken given → CombineStands p (taken ++ Closed port q ∷ []) given
+pub stands_close : (p : Combine) (taken : List CallEntry) (given : List Item) (port : Port) (q : ℕ) → CombineStands p taken given → CombineStands p (taken ++ QueueClosed port q ∷ []) given
 stands_close p taken given port q h =
-    let e : Entry = Closed port q in
+    let e : CallEntry = QueueClosed port q in
     let same : items_of (taken ++ e ∷ []) ≡ items_of taken = items_push taken e ∙ append-nil (items_of taken) in
     record {
       promises = subst (λ (xs : List Item). Promises p.vertex p.size p.slide p.passed p.held (given ++ pending p.vertex p.end p.ready) (StageInput (taken ++ e ∷ [])) xs) (sym same) (weaker (input_front taken e) h.promises);
@@ -187,16 +187,16 @@ stands_close p taken given port q h =
     }
 
 -- what is held on is as open as before
-open_gave : (p : Combine) (b : List Item) (q : Combine) (a : List Item) (taken : List Entry) → Gave p b q a → HeldOpen p taken → HeldOpen q taken
+open_gave : (p : Combine) (b : List Item) (q : Combine) (a : List Item) (taken : List CallEntry) → Gave p b q a → HeldOpen p taken → HeldOpen q taken
 open_gave p b q a taken g h = rw (g.size, g.slide)
     (λ grid i. Each-back (λ (f : Place × AccValue). InOpenWindow p.size p.slide (due_after taken) f.0.0) g.forgets q.held (subst (Each (λ (f : Place × AccValue). InOpenWindow p.size p.slide (due_after taken) f.0.0)) g.held (h grid i)))
 
-pub marking_gave : (p : Combine) (b : List Item) (q : Combine) (a : List Item) (taken : List Entry) (t : ℤ) (given : List Item) → (g : Gave p b q a) → (Passes p.passed t → Passes q.passed t) → Marking p taken t given → Marking q taken t (given ++ g.put)
+pub marking_gave : (p : Combine) (b : List Item) (q : Combine) (a : List Item) (taken : List CallEntry) (t : ℤ) (given : List Item) → (g : Gave p b q a) → (Passes p.passed t → Passes q.passed t) → Marking p taken t given → Marking q taken t (given ++ g.put)
 marking_gave p b q a taken t given g bound h = record { promises = g.keeps taken given h.promises; range = g.range h.range; bound = λ i. bound (h.bound i); held_open = open_gave p b q a taken g h.held_open }
 
-pub stands_mark : (p : Combine) (taken : List Entry) (t : ℤ) (given : List Item) → p.ready ≡ [] → Clear p.size p.slide p.passed p.held t → OpenAbove p.size p.slide t p.held → Marking p taken t given → CombineStands (record p { passed = Some t }) (taken ++ Told t ∷ []) (given ++ item.Mark t ∷ [])
+pub stands_mark : (p : Combine) (taken : List CallEntry) (t : ℤ) (given : List Item) → p.ready ≡ [] → Clear p.size p.slide p.passed p.held t → OpenAbove p.size p.slide t p.held → Marking p taken t given → CombineStands (record p { passed = Some t }) (taken ++ MarkTold t ∷ []) (given ++ item.Mark t ∷ [])
 stands_mark p taken t given none clear above h =
-    let e : Entry = Told t in
+    let e : CallEntry = MarkTold t in
     let old : Promises p.vertex p.size p.slide p.passed p.held given (StageInput taken) (items_of taken) =
     subst (λ (xs : List Item). Promises p.vertex p.size p.slide p.passed p.held xs (StageInput taken) (items_of taken)) (no_pending p.vertex p.end p.ready given none) h.promises in
     let new : Promises p.vertex p.size p.slide (Some t) p.held (given ++ item.Mark t ∷ []) (StageInput (taken ++ e ∷ [])) (items_of taken ++ item.Mark t ∷ []) =
@@ -213,13 +213,13 @@ stands_mark p taken t given none clear above h =
           (λ f w. (w.0, w.1, w.2, told_same taken t w.0 (input_open taken e i) ∙ w.3)) p.held above;
     }
 
-finish_is : (taken : List Entry) → Each NotFinish (taken ++ Finish ∷ []) → ⊥
+finish_is : (taken : List CallEntry) → Each NotFinish (taken ++ Finish ∷ []) → ⊥
 finish_is taken h = (Each-back NotFinish taken (Finish ∷ []) h).0
 
-pub finishing_gave : (p : Combine) (b : List Item) (q : Combine) (a : List Item) (taken : List Entry) (given : List Item) → (g : Gave p b q a) → Finishing p taken given → Finishing q taken (given ++ g.put)
+pub finishing_gave : (p : Combine) (b : List Item) (q : Combine) (a : List Item) (taken : List CallEntry) (given : List Item) → (g : Gave p b q a) → Finishing p taken given → Finishing q taken (given ++ g.put)
 finishing_gave p b q a taken given g h = record { promises = g.keeps taken given h.promises; range = g.range h.range; held_open = open_gave p b q a taken g h.held_open }
 
-pub stands_finish : (p : Combine) (taken : List Entry) (given : List Item) → p.ready ≡ [] → p.held ≡ [] → Finishing p taken given → CombineStands p (taken ++ Finish ∷ []) given
+pub stands_finish : (p : Combine) (taken : List CallEntry) (given : List Item) → p.ready ≡ [] → p.held ≡ [] → Finishing p taken given → CombineStands p (taken ++ Finish ∷ []) given
 stands_finish p taken given none empty h =
     record {
       promises = subst (λ (xs : List Item). Promises p.vertex p.size p.slide p.passed p.held (given ++ pending p.vertex p.end p.ready) (StageInput (taken ++ Finish ∷ [])) xs) (sym (items_push taken Finish ∙ append-nil (items_of taken)))

@@ -18,8 +18,8 @@ use Rattle.jet_window.specs.Tables.{Place}
 use Rattle.jet_window.specs.FrameTables.{Table, held_in, IsKept}
 use Rattle.jet_window.specs.WindowRows.{as_list}
 use Rattle.jet_window.specs.Combining.{accs_at, TakesUp}
-use Rattle.jet_window.specs.WindowOf.{key_joined, KeysRise, WindowOf}
-use Rattle.jet_window.specs.NextEnds.{IsNextEnd}
+use Rattle.jet_window.specs.inner.WindowOf.{key_joined, KeysRise, WindowOf}
+use Rattle.jet_window.specs.inner.NextEnds.{IsNextEnd}
 use Rattle.jet_window.proofs.Tabling.{total-insert, order_insert}
 
 pub key_equal : (x y : List ℕ) → slice_cmp nat_cmp x y ≡ Equal → x ≡ y

@@ -3,17 +3,17 @@ use Rattle.std.specs.Prelude.{◌≡◌, Bool, false, List, Result}
 use Rattle.jet_items.specs.declared.item.Item.{Item}
 use Rattle.jet_items.specs.declared.no_memory.NoMemory.{NoMemory}
 use Rattle.jet_boxes.specs.Calls.{Call, MayCall}
-use Rattle.jet_boxes.specs.Entry.{Entry}
-use Rattle.jet_boxes.specs.Held.{Held}
+use Rattle.jet_boxes.specs.Entry.{CallEntry}
+use Rattle.jet_boxes.specs.Held.{BoxView}
 use Rattle.jet_window.specs.declared.combine.CombineP.{CombineP}
 use Rattle.jet_window.specs.CombineStands.{CombineStands, CombineAmid}
 use Rattle.jet_window.specs.CombineView.{combine_of}
 
 -- what it stands for between two calls, and in the middle of a call for an entry
-abbrev pub Stands : CombineP → List Entry → List Item → Type 0
+abbrev pub Stands : CombineP → List CallEntry → List Item → Type 0
 Stands p taken given = CombineStands (combine_of p) taken given
 
-abbrev pub Amid : CombineP → List Entry → Entry → List Item → Type 0
+abbrev pub Amid : CombineP → List CallEntry → CallEntry → List Item → Type 0
 Amid p taken entry given = CombineAmid (combine_of p) taken entry given
 
 -- the same number and sizes
@@ -21,9 +21,9 @@ abbrev pub Alike : CombineP → CombineP → Type 0
 Alike p q = (q.vertex ≡ p.vertex) × (q.policy ≡ p.policy)
 
 -- what a call does: what a call of each processor does
-abbrev pub CombineCall : CombineP → Entry → Held → Result Bool NoMemory → CombineP → Held → Type 0
+abbrev pub CombineCall : CombineP → CallEntry → BoxView → Result Bool NoMemory → CombineP → BoxView → Type 0
 CombineCall p entry before result q after = Call {S = CombineP} Stands Amid Alike false p entry before result q after
 
 -- when a call may be made
-abbrev pub CombineMayCall : CombineP → Entry → Type 0
+abbrev pub CombineMayCall : CombineP → CallEntry → Type 0
 CombineMayCall p entry = MayCall {S = CombineP} Amid (λ port queue. Unit {0}) p entry

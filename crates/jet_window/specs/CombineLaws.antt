@@ -13,7 +13,7 @@ use Rattle.jet_items.specs.declared.item.Item.TheVariants as item
 use Rattle.jet_items.proofs.Covering.{Decides-int_le}
 use Rattle.jet_items.proofs.Totaling.{total-map}
 use Rattle.jet_items.proofs.Orders.{Each-more, Each-front, EachPair-front}
-use Rattle.jet_boxes.specs.Entry.{Entry, Given, Told, Closed, Finish, items_of, IsData, NotDone}
+use Rattle.jet_boxes.specs.Entry.{CallEntry, Given, MarkTold, QueueClosed, Finish, items_of, IsData, NotDone}
 use Rattle.jet_window.specs.CombineStands.{Combine, CombineBag, CombineBagAmid, CombineStands, CombineAmid, HeldOpen, Promises, PromisesAfter, pending, pending_rows}
 use Rattle.jet_window.specs.Combining.{Passes, row_of}
 use Rattle.jet_window.specs.FrameTables.{Table, frame_of, held_in}
@@ -23,21 +23,21 @@ use Rattle.jet_window.specs.Taken.{is_due, last_from, last_mark, is_finished, du
 use Rattle.jet_window.specs.WindowRows.{as_list, RowsAre}
 
 -- ---- a mark that is told next is above what passed
-tie_bound : (taken : List Entry) (t : ℤ) (o : Option ℤ) → o ≡ last_mark taken → StageInput (taken ++ Told t ∷ []) → Passes o t
+tie_bound : (taken : List CallEntry) (t : ℤ) (o : Option ℤ) → o ≡ last_mark taken → StageInput (taken ++ MarkTold t ∷ []) → Passes o t
 tie_bound taken t o is h = record { stays = λ d k. told_above taken t d h (subst (λ (z : Option ℤ). is_due z d ≡ true) is k) }
 
 -- a call may begin
-pub combine_begins : (p : Combine) (taken : List Entry) (entry : Entry) (given : List Item) → CombineStands p taken given → CombineAmid p taken entry given
+pub combine_begins : (p : Combine) (taken : List CallEntry) (entry : CallEntry) (given : List Item) → CombineStands p taken given → CombineAmid p taken entry given
 combine_begins p taken (Given port q x) given h = h
-combine_begins p taken (Told t) given h = record { promises = h.promises; range = h.range; held_open = h.held_open; bound = λ i. tie_bound taken t p.passed (h.tie (input_open taken (Told t) i)) i }
-combine_begins p taken (Closed port q) given h = h
+combine_begins p taken (MarkTold t) given h = record { promises = h.promises; range = h.range; held_open = h.held_open; bound = λ i. tie_bound taken t p.passed (h.tie (input_open taken (MarkTold t) i)) i }
+combine_begins p taken (QueueClosed port q) given h = h
 combine_begins p taken Finish given h = record { promises = h.promises; range = h.range; held_open = h.held_open }
 
 -- ---- what is promised
 pub no_pending : (vertex : ℕ) (e : ℤ) (ready : List (List ℕ × AccValue)) (given : List Item) → ready ≡ [] → given ++ pending vertex e ready ≡ given
 no_pending vertex e ready given h = rw h (append-nil given)
 
-pub given_promised : (p : Combine) (taken : List Entry) (given : List Item) → CombineStands p taken given → Promises p.vertex p.size p.slide p.passed p.held given (StageInput taken) (items_of taken)
+pub given_promised : (p : Combine) (taken : List CallEntry) (given : List Item) → CombineStands p taken given → Promises p.vertex p.size p.slide p.passed p.held given (StageInput taken) (items_of taken)
 given_promised p taken given h =
     subst (λ (xs : List Item). Promises p.vertex p.size p.slide p.passed p.held xs (StageInput taken) (items_of taken)) (no_pending p.vertex p.end p.ready given h.put) h.promises
 
@@ -46,55 +46,55 @@ pub pending_none : {X : Type 0} (f : Item → List X) → ((r : RowValue) → f 
 pending_none f h vertex e [] = refl
 pending_none f h vertex e (p ∷ ps) = rw (h (row_of vertex e p)) (pending_none f h vertex e ps)
 
-promised_sound : (p : Combine) (taken : List Entry) (given : List Item) → PromisesAfter p taken given → (behind : ℕ → ℕ → Bool) → Sound behind (items_of taken) → Sound behind given
+promised_sound : (p : Combine) (taken : List CallEntry) (given : List Item) → PromisesAfter p taken given → (behind : ℕ → ℕ → Bool) → Sound behind (items_of taken) → Sound behind given
 promised_sound p taken given h behind k = record {
   after = EachPair-front (SoundAfter behind) given (pending p.vertex p.end p.ready) ((h.sound behind).inside k.after);
   lates = Each-front (LateIsBehind behind) given (pending p.vertex p.end p.ready) (h.behind_lates behind k.lates);
 }
 
-promised_closed : (p : Combine) (taken : List Entry) (given : List Item) → PromisesAfter p taken given → ClosedItems (items_of taken) → ClosedItems given
+promised_closed : (p : Combine) (taken : List CallEntry) (given : List Item) → PromisesAfter p taken given → ClosedItems (items_of taken) → ClosedItems given
 promised_closed p taken given h k = record { after = EachPair-front ClosedAfter given (pending p.vertex p.end p.ready) (h.closed k.after) }
 
-promised_marks : (p : Combine) (taken : List Entry) (given : List Item) → PromisesAfter p taken given → marks_of given ≡ marks_of (items_of taken)
+promised_marks : (p : Combine) (taken : List CallEntry) (given : List Item) → PromisesAfter p taken given → marks_of given ≡ marks_of (items_of taken)
 promised_marks p taken given h =
     sym (append-nil (marks_of given)) ∙ (ap (λ (ws : List ℤ). marks_of given ++ ws) (sym (pending_none as_mark (λ r. refl) p.vertex p.end p.ready)) ∙ (sym (flat_map-append as_mark given (pending p.vertex p.end p.ready)) ∙ h.marks))
 
-pub amid_promises : (p : Combine) (taken : List Entry) (entry : Entry) (given : List Item) → CombineAmid p taken entry given → PromisesAfter p taken given
+pub amid_promises : (p : Combine) (taken : List CallEntry) (entry : CallEntry) (given : List Item) → CombineAmid p taken entry given → PromisesAfter p taken given
 amid_promises p taken (Given port q x) given h = h.promises
-amid_promises p taken (Told t) given h = h.promises
-amid_promises p taken (Closed port q) given h = h.promises
+amid_promises p taken (MarkTold t) given h = h.promises
+amid_promises p taken (QueueClosed port q) given h = h.promises
 amid_promises p taken Finish given h = h.promises
 
 -- ---- the mark laws
 -- where what was taken is sound, what was given is
-pub combine_sound : (behind : ℕ → ℕ → Bool) (p : Combine) (taken : List Entry) (given : List Item) → CombineStands p taken given → Sound behind (items_of taken) → Sound behind given
+pub combine_sound : (behind : ℕ → ℕ → Bool) (p : Combine) (taken : List CallEntry) (given : List Item) → CombineStands p taken given → Sound behind (items_of taken) → Sound behind given
 combine_sound behind p taken given h k = promised_sound p taken given h.promises behind k
 
-pub combine_sound_amid : (behind : ℕ → ℕ → Bool) (p : Combine) (taken : List Entry) (entry : Entry) (given : List Item) → CombineAmid p taken entry given → Sound behind (items_of (taken ++ entry ∷ [])) → Sound behind given
+pub combine_sound_amid : (behind : ℕ → ℕ → Bool) (p : Combine) (taken : List CallEntry) (entry : CallEntry) (given : List Item) → CombineAmid p taken entry given → Sound behind (items_of (taken ++ entry ∷ [])) → Sound behind given
 combine_sound_amid behind p taken entry given h k = promised_sound p taken given (amid_promises p taken entry given h) behind (sound_front behind taken entry k)
 
 -- where what was taken is closed, what was given is
-pub combine_closed : (p : Combine) (taken : List Entry) (given : List Item) → CombineStands p taken given → ClosedItems (items_of taken) → ClosedItems given
+pub combine_closed : (p : Combine) (taken : List CallEntry) (given : List Item) → CombineStands p taken given → ClosedItems (items_of taken) → ClosedItems given
 combine_closed p taken given h k = promised_closed p taken given h.promises k
 
-pub combine_closed_amid : (p : Combine) (taken : List Entry) (entry : Entry) (given : List Item) → CombineAmid p taken entry given → ClosedItems (items_of (taken ++ entry ∷ [])) → ClosedItems given
+pub combine_closed_amid : (p : Combine) (taken : List CallEntry) (entry : CallEntry) (given : List Item) → CombineAmid p taken entry given → ClosedItems (items_of (taken ++ entry ∷ [])) → ClosedItems given
 combine_closed_amid p taken entry given h k = promised_closed p taken given (amid_promises p taken entry given h) (record { after = closed_front taken entry k.after })
 
 -- no end was given
-promised_open : (p : Combine) (taken : List Entry) (given : List Item) → PromisesAfter p taken given → Each NotDone given
+promised_open : (p : Combine) (taken : List CallEntry) (given : List Item) → PromisesAfter p taken given → Each NotDone given
 promised_open p taken given h = Each-front NotDone given (pending p.vertex p.end p.ready) h.open_ended
 
-pub combine_open : (p : Combine) (taken : List Entry) (given : List Item) → CombineStands p taken given → Each NotDone given
+pub combine_open : (p : Combine) (taken : List CallEntry) (given : List Item) → CombineStands p taken given → Each NotDone given
 combine_open p taken given h = promised_open p taken given h.promises
 
-pub combine_open_amid : (p : Combine) (taken : List Entry) (entry : Entry) (given : List Item) → CombineAmid p taken entry given → Each NotDone given
+pub combine_open_amid : (p : Combine) (taken : List CallEntry) (entry : CallEntry) (given : List Item) → CombineAmid p taken entry given → Each NotDone given
 combine_open_amid p taken entry given h = promised_open p taken given (amid_promises p taken entry given h)
 
 -- the marks given are those that were taken
-pub combine_marks : (p : Combine) (taken : List Entry) (given : List Item) → CombineStands p taken given → marks_of given ≡ marks_of (items_of taken)
+pub combine_marks : (p : Combine) (taken : List CallEntry) (given : List Item) → CombineStands p taken given → marks_of given ≡ marks_of (items_of taken)
 combine_marks p taken given h = promised_marks p taken given h.promises
 
-pub combine_marks_amid : (p : Combine) (taken : List Entry) (entry : Entry) (given : List Item) → CombineAmid p taken entry given → marks_of given ≡ marks_of (items_of taken)
+pub combine_marks_amid : (p : Combine) (taken : List CallEntry) (entry : CallEntry) (given : List Item) → CombineAmid p taken entry given → marks_of given ≡ marks_of (items_of taken)
 combine_marks_amid p taken entry given h = promised_marks p taken given (amid_promises p taken entry given h)
 
 -- ---- the bag law
@@ -103,7 +103,7 @@ all_due true true t h = refl
 all_due true false t h = rw (h refl refl) refl
 all_due false b t h = refl
 
-rows_if : (p : Combine) (taken : List Entry) (given : List Item) → (h : CombineStands p taken given) → StageInput taken → (b : Bool) → is_finished taken ≡ b
+rows_if : (p : Combine) (taken : List CallEntry) (given : List Item) → (h : CombineStands p taken given) → StageInput taken → (b : Bool) → is_finished taken ≡ b
     → RowsAre p.vertex p.size p.slide (λ e. b || is_due (last_mark taken) e) (frames_of (items_of taken)) (given_promised p taken given h).own
 rows_if p taken given h k true is =
     let f = (given_promised p taken given h).fits k in
@@ -121,14 +121,14 @@ rows_if p taken given h k false is =
 held_frames : (vertex : ℕ) (size e : ℤ) (key : List ℕ) (held : Table) → total (frame_in size e key) (map (frame_of vertex) held) ≡ total (held_in size e key) held
 held_frames vertex size e key held = total-map (frame_in size e key) (frame_of vertex) held
 
-open_frames : (vertex : ℕ) (size slide : ℤ) (taken : List Entry) (held : Table) → Each (λ (f : Place × AccValue). InOpenWindow size slide (due_after taken) f.0.0) held → Each (λ (f : FrameValue). InOpenWindow size slide (due_after taken) f.end) (map (frame_of vertex) held)
+open_frames : (vertex : ℕ) (size slide : ℤ) (taken : List CallEntry) (held : Table) → Each (λ (f : Place × AccValue). InOpenWindow size slide (due_after taken) f.0.0) held → Each (λ (f : FrameValue). InOpenWindow size slide (due_after taken) f.end) (map (frame_of vertex) held)
 open_frames vertex size slide taken [] h = tt
 open_frames vertex size slide taken (f ∷ fs) h = (h.0, open_frames vertex size slide taken fs h.1)
 
-amid_open : (p : Combine) (taken : List Entry) (entry : Entry) (given : List Item) → CombineAmid p taken entry given → HeldOpen p taken
+amid_open : (p : Combine) (taken : List CallEntry) (entry : CallEntry) (given : List Item) → CombineAmid p taken entry given → HeldOpen p taken
 amid_open p taken (Given port q x) given h = h.held_open
-amid_open p taken (Told t) given h = h.held_open
-amid_open p taken (Closed port q) given h = h.held_open
+amid_open p taken (MarkTold t) given h = h.held_open
+amid_open p taken (QueueClosed port q) given h = h.held_open
 amid_open p taken Finish given h = h.held_open
 
 neither : (b c : Bool) → (b || c) ≡ false → (b ≡ false) × (c ≡ false)
@@ -136,13 +136,13 @@ neither true c h = absurd (cc)
 neither false c h = (refl, h)
 
 -- what is not due has not passed
-not_passed : (p : Combine) (taken : List Entry) (given : List Item) → CombineStands p taken given → (e : ℤ) → due_after taken e ≡ false → is_due p.passed e ≡ false
+not_passed : (p : Combine) (taken : List CallEntry) (given : List Item) → CombineStands p taken given → (e : ℤ) → due_after taken e ≡ false → is_due p.passed e ≡ false
 not_passed p taken given h e d =
     let both = neither (is_finished taken) (is_due (last_mark taken) e) d in
     subst (λ (o : Option ℤ). is_due o e ≡ false) (sym (h.tie (not_finished taken both.0))) both.1
 
 -- nothing is lost, made up or given twice: the rows given are those of the frames taken, of all windows that are due
-pub combine_bag : (p : Combine) (taken : List Entry) (given : List Item) → CombineStands p taken given → CombineBag p.vertex p.size p.slide None [] (map (frame_of p.vertex) p.held) (due_after taken) (StageInput taken) taken given
+pub combine_bag : (p : Combine) (taken : List CallEntry) (given : List Item) → CombineStands p taken given → CombineBag p.vertex p.size p.slide None [] (map (frame_of p.vertex) p.held) (due_after taken) (StageInput taken) taken given
 combine_bag p taken given h =
     let g = given_promised p taken given h in
     record {
@@ -169,13 +169,13 @@ due_last : (passed : Option ℤ) (ws : List ℤ) (e : ℤ) → Each (λ w. is_du
 due_last passed ws e h None is k = absurd (cc)
 due_last passed ws e h (Some w) is k = due_below passed e w ((Decides-int_le e w).0 k) (from_last (λ v. is_due passed v ≡ true) w ws h is)
 
-at_most_after : (p : Combine) (taken : List Entry) (entry : Entry) (given : List Item) → CombineAmid p taken entry given → StageInput (taken ++ entry ∷ []) → (e : ℤ) → is_due p.passed e ≡ true → due_after (taken ++ entry ∷ []) e ≡ true
+at_most_after : (p : Combine) (taken : List CallEntry) (entry : CallEntry) (given : List Item) → CombineAmid p taken entry given → StageInput (taken ++ entry ∷ []) → (e : ℤ) → is_due p.passed e ≡ true → due_after (taken ++ entry ∷ []) e ≡ true
 at_most_after p taken (Given port q x) given h i e d = due_next taken (Given port q x) i e (subst (λ (z : Option ℤ). is_due z e ≡ true) (h.tie (input_open taken (Given port q x) i)) d)
-at_most_after p taken (Told t) given h i e d = told_due taken t e ((h.bound i).stays e d)
-at_most_after p taken (Closed port q) given h i e d = due_next taken (Closed port q) i e (subst (λ (z : Option ℤ). is_due z e ≡ true) (h.tie (input_open taken (Closed port q) i)) d)
+at_most_after p taken (MarkTold t) given h i e d = told_due taken t e ((h.bound i).stays e d)
+at_most_after p taken (QueueClosed port q) given h i e d = due_next taken (QueueClosed port q) i e (subst (λ (z : Option ℤ). is_due z e ≡ true) (h.tie (input_open taken (QueueClosed port q) i)) d)
 at_most_after p taken Finish given h i e d = finish_due taken e
 
-pub combine_bag_amid : (p : Combine) (taken : List Entry) (entry : Entry) (given : List Item) → CombineAmid p taken entry given → CombineBagAmid p.vertex p.size p.slide None [] (map (frame_of p.vertex) p.held) taken entry given
+pub combine_bag_amid : (p : Combine) (taken : List CallEntry) (entry : CallEntry) (given : List Item) → CombineAmid p taken entry given → CombineBagAmid p.vertex p.size p.slide None [] (map (frame_of p.vertex) p.held) taken entry given
 combine_bag_amid p taken entry given h =
     let g = amid_promises p taken entry given h in
     record {

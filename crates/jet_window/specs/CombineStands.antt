@@ -11,7 +11,7 @@ use Rattle.jet_items.specs.declared.item.Item.{Item}
 use Rattle.jet_items.specs.declared.item.Item.TheVariants as item
 use Rattle.jet_items.proofs.Orders.{Shadows}
 use Rattle.jet_policy.specs.Policy.{IsPolicy}
-use Rattle.jet_boxes.specs.Entry.{Entry, Given, Told, Closed, Finish, items_of, NotFinish, NotDone}
+use Rattle.jet_boxes.specs.Entry.{CallEntry, Given, MarkTold, QueueClosed, Finish, items_of, NotFinish, NotDone}
 use Rattle.jet_window.specs.Idles.{idles_of}
 use Rattle.jet_window.specs.Combining.{Fits, Passes, row_of}
 use Rattle.jet_window.specs.FrameTables.{Table, IsKept}
@@ -25,7 +25,7 @@ newly begun due e = cond (is_due begun e) false (due e)
 
 -- the bag law of a combine vertex that holds these frames, and began with this mark and these frames or with none: `due` says of
 -- a window end that its rows are given, where what was taken is as `input` says
-pub record CombineBag (vertex : ℕ) (size slide : ℤ) (begun : Option ℤ) (start held : List FrameValue) (due : ℤ → Bool) (input : Type 0) (taken : List Entry) (given : List Item) : Type 0 where
+pub record CombineBag (vertex : ℕ) (size slide : ℤ) (begun : Option ℤ) (start held : List FrameValue) (due : ℤ → Bool) (input : Type 0) (taken : List CallEntry) (given : List Item) : Type 0 where
   -- events, side rows, idle notes and late items pass, and no frame does
   pub events : events_of given ≡ events_of (items_of taken)
   pub sides : sides_of given ≡ sides_of (items_of taken)
@@ -45,7 +45,7 @@ pub record CombineBag (vertex : ℕ) (size slide : ℤ) (begun : Option ℤ) (st
 
 -- the same in the middle of a call: with the rows that are ready to be given, they are those of the windows up to a time;
 -- that is at least the last mark, and no later than the call itself makes due
-pub record CombineBagAmid (vertex : ℕ) (size slide : ℤ) (begun : Option ℤ) (start held : List FrameValue) (taken : List Entry) (entry : Entry) (given : List Item) : Type 0 where
+pub record CombineBagAmid (vertex : ℕ) (size slide : ℤ) (begun : Option ℤ) (start held : List FrameValue) (taken : List CallEntry) (entry : CallEntry) (given : List Item) : Type 0 where
   pub ready : List RowValue
   pub until : Option ℤ
   pub at_least : StageInput (taken ++ entry ∷ []) → (e : ℤ) → due_after taken e ≡ true → is_due until e ≡ true
@@ -100,15 +100,15 @@ pub record Combine : Type 0 where
   pub ready : List (List ℕ × AccValue)
 
 -- what it promises after these entries
-abbrev pub PromisesAfter : Combine → List Entry → List Item → Type 0
+abbrev pub PromisesAfter : Combine → List CallEntry → List Item → Type 0
 PromisesAfter p taken given = Promises p.vertex p.size p.slide p.passed p.held (given ++ pending p.vertex p.end p.ready) (StageInput taken) (items_of taken)
 
 -- each frame that it holds lies in a window that is open after these entries
-abbrev pub HeldOpen : Combine → List Entry → Type 0
+abbrev pub HeldOpen : Combine → List CallEntry → Type 0
 HeldOpen p taken = IsPolicy p.size p.slide → StageInput taken → Each (λ (f : Place × AccValue). InOpenWindow p.size p.slide (due_after taken) f.0.0) p.held
 
 -- between calls nothing is ready, and what passed is the last mark
-pub record CombineStands (p : Combine) (taken : List Entry) (given : List Item) : Type 0 where
+pub record CombineStands (p : Combine) (taken : List CallEntry) (given : List Item) : Type 0 where
   pub promises : PromisesAfter p taken given
   pub range : IsWithin most_row_end p.end
   pub put : p.ready ≡ []
@@ -117,22 +117,22 @@ pub record CombineStands (p : Combine) (taken : List Entry) (given : List Item) 
   pub held_open : HeldOpen p taken
 
 -- within a call for a mark, what passed is at most that mark
-pub record Marking (p : Combine) (taken : List Entry) (t : ℤ) (given : List Item) : Type 0 where
+pub record Marking (p : Combine) (taken : List CallEntry) (t : ℤ) (given : List Item) : Type 0 where
   pub promises : PromisesAfter p taken given
   pub range : IsWithin most_row_end p.end
-  pub bound : StageInput (taken ++ Told t ∷ []) → Passes p.passed t
+  pub bound : StageInput (taken ++ MarkTold t ∷ []) → Passes p.passed t
   pub held_open : HeldOpen p taken
 
 -- within the finish
-pub record Finishing (p : Combine) (taken : List Entry) (given : List Item) : Type 0 where
+pub record Finishing (p : Combine) (taken : List CallEntry) (given : List Item) : Type 0 where
   pub promises : PromisesAfter p taken given
   pub range : IsWithin most_row_end p.end
   pub held_open : HeldOpen p taken
 
-abbrev pub CombineAmid : Combine → List Entry → Entry → List Item → Type 0
+abbrev pub CombineAmid : Combine → List CallEntry → CallEntry → List Item → Type 0
 CombineAmid p taken (Given port q x) given = CombineStands p taken given
-CombineAmid p taken (Told t) given = Marking p taken t given
-CombineAmid p taken (Closed port q) given = CombineStands p taken given
+CombineAmid p taken (MarkTold t) given = Marking p taken t given
+CombineAmid p taken (QueueClosed port q) given = CombineStands p taken given
 CombineAmid p taken Finish given = Finishing p taken given
 
 -- what a part of a call does: some rows were put, and what was promised stays promised
@@ -146,7 +146,7 @@ pub record Gave (p : Combine) (before : List Item) (q : Combine) (after : List I
   pub slide : q.slide ≡ p.slide
   pub range : IsWithin most_row_end p.end → IsWithin most_row_end q.end
   pub kept : IsKept p.held → IsKept q.held
-  pub keeps : (taken : List Entry) (given : List Item) → PromisesAfter p taken given → PromisesAfter q taken (given ++ put)
+  pub keeps : (taken : List CallEntry) (given : List Item) → PromisesAfter p taken given → PromisesAfter q taken (given ++ put)
 
 -- rows that were ready were put, and the others are still ready
 pub record PutsReady (vertex : ℕ) (e : ℤ) (old : List (List ℕ × AccValue)) (before : List Item) (new : List (List ℕ × AccValue)) (after : List Item) : Type 0 where

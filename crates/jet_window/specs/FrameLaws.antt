@@ -10,7 +10,7 @@ use Rattle.jet_items.specs.Values.{AccValue, EventValue, FrameValue, LateValue}
 use Rattle.jet_items.specs.declared.item.Item.{Item}
 use Rattle.jet_items.specs.declared.item.Item.TheVariants as item
 use Rattle.jet_items.proofs.Orders.{Each-more}
-use Rattle.jet_boxes.specs.Entry.{Entry, items_of, NotDone}
+use Rattle.jet_boxes.specs.Entry.{CallEntry, items_of, NotDone}
 use Rattle.jet_window.specs.FrameStands.{FrameBag, FrameStands}
 use Rattle.jet_window.specs.FrameTables.{Table, frame_of}
 use Rattle.jet_window.specs.LateEvents.{is_late, brought, late_by, kept_by, late_items, kept_events}
@@ -64,7 +64,7 @@ above_frames vertex last [] h = tt
 above_frames vertex last (f ∷ fs) h = (h.0, above_frames vertex last fs h.1)
 
 -- nothing is lost, made up or given twice
-pub frame_bag : (vertex : ℕ) (slide : ℤ) (last : Option ℤ) (held : Table) (told taken : List Entry) (given : List Item) → FrameStands vertex slide last held told taken given → FrameBag vertex slide None (map (frame_of vertex) held) told taken given
+pub frame_bag : (vertex : ℕ) (slide : ℤ) (last : Option ℤ) (held : Table) (told taken : List CallEntry) (given : List Item) → FrameStands vertex slide last held told taken given → FrameBag vertex slide None (map (frame_of vertex) held) told taken given
 frame_bag vertex slide last held told taken given h = record {
   lates = h.lates;
   parts = parts_of vertex slide (items_of taken) given h.lates;
@@ -85,25 +85,25 @@ frame_bag vertex slide last held told taken given h = record {
 }
 
 -- where what was taken is sound, what was given is
-pub frame_sound : (behind : ℕ → ℕ → Bool) (vertex : ℕ) (slide : ℤ) (last : Option ℤ) (held : Table) (told taken : List Entry) (given : List Item) → FrameStands vertex slide last held told taken given → Sound behind (items_of taken) → Sound behind given
+pub frame_sound : (behind : ℕ → ℕ → Bool) (vertex : ℕ) (slide : ℤ) (last : Option ℤ) (held : Table) (told taken : List CallEntry) (given : List Item) → FrameStands vertex slide last held told taken given → Sound behind (items_of taken) → Sound behind given
 frame_sound behind vertex slide last held told taken given h s = record { after = no_events_sound behind given h.no_events; lates = h.behind_lates behind s }
 
 -- where what was taken is closed, what was given is
-pub frame_closed : (vertex : ℕ) (slide : ℤ) (last : Option ℤ) (held : Table) (told taken : List Entry) (given : List Item) → FrameStands vertex slide last held told taken given → ClosedItems (items_of taken) → ClosedItems given
+pub frame_closed : (vertex : ℕ) (slide : ℤ) (last : Option ℤ) (held : Table) (told taken : List CallEntry) (given : List Item) → FrameStands vertex slide last held told taken given → ClosedItems (items_of taken) → ClosedItems given
 frame_closed vertex slide last held told taken given h i = record { after = h.closed i.after }
 
-pub frame_sound_amid : (behind : ℕ → ℕ → Bool) (vertex : ℕ) (slide : ℤ) (last : Option ℤ) (held : Table) (taken : List Entry) (entry : Entry) (given : List Item) → FrameStands vertex slide last held (taken ++ entry ∷ []) taken given → Sound behind (items_of (taken ++ entry ∷ [])) → Sound behind given
+pub frame_sound_amid : (behind : ℕ → ℕ → Bool) (vertex : ℕ) (slide : ℤ) (last : Option ℤ) (held : Table) (taken : List CallEntry) (entry : CallEntry) (given : List Item) → FrameStands vertex slide last held (taken ++ entry ∷ []) taken given → Sound behind (items_of (taken ++ entry ∷ [])) → Sound behind given
 frame_sound_amid behind vertex slide last held taken entry given h s = frame_sound behind vertex slide last held (taken ++ entry ∷ []) taken given h (sound_front behind taken entry s)
 
-pub frame_closed_amid : (vertex : ℕ) (slide : ℤ) (last : Option ℤ) (held : Table) (taken : List Entry) (entry : Entry) (given : List Item) → FrameStands vertex slide last held (taken ++ entry ∷ []) taken given → ClosedItems (items_of (taken ++ entry ∷ [])) → ClosedItems given
+pub frame_closed_amid : (vertex : ℕ) (slide : ℤ) (last : Option ℤ) (held : Table) (taken : List CallEntry) (entry : CallEntry) (given : List Item) → FrameStands vertex slide last held (taken ++ entry ∷ []) taken given → ClosedItems (items_of (taken ++ entry ∷ [])) → ClosedItems given
 frame_closed_amid vertex slide last held taken entry given h s = frame_closed vertex slide last held (taken ++ entry ∷ []) taken given h (record { after = closed_front taken entry s.after })
 
 -- no end was given
-pub frame_open : (vertex : ℕ) (slide : ℤ) (last : Option ℤ) (held : Table) (told taken : List Entry) (given : List Item) → FrameStands vertex slide last held told taken given → Each NotDone given
+pub frame_open : (vertex : ℕ) (slide : ℤ) (last : Option ℤ) (held : Table) (told taken : List CallEntry) (given : List Item) → FrameStands vertex slide last held told taken given → Each NotDone given
 frame_open vertex slide last held told taken given h = h.open_ended
 
 -- a call may begin: what was closed before stays closed
-pub frame_begins : (vertex : ℕ) (slide : ℤ) (last : Option ℤ) (held : Table) (taken : List Entry) (entry : Entry) (given : List Item) → FrameStands vertex slide last held taken taken given → FrameStands vertex slide last held (taken ++ entry ∷ []) taken given
+pub frame_begins : (vertex : ℕ) (slide : ℤ) (last : Option ℤ) (held : Table) (taken : List CallEntry) (entry : CallEntry) (given : List Item) → FrameStands vertex slide last held taken taken given → FrameStands vertex slide last held (taken ++ entry ∷ []) taken given
 frame_begins vertex slide last held taken entry given h = record {
   tie = h.tie;
   behind_lates = h.behind_lates;

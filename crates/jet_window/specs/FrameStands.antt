@@ -7,7 +7,7 @@ use Rattle.jet_items.specs.Order.{Each, EachPair, Sound, LateIsBehind, ClosedAft
 use Rattle.jet_items.specs.Values.{AccValue, FrameValue}
 use Rattle.jet_items.specs.declared.item.Item.{Item}
 use Rattle.jet_items.specs.declared.item.Item.TheVariants as item
-use Rattle.jet_boxes.specs.Entry.{Entry, Finish, NotDone, items_of}
+use Rattle.jet_boxes.specs.Entry.{CallEntry, Finish, NotDone, items_of}
 use Rattle.jet_window.specs.Idles.{idles_of}
 use Rattle.jet_window.specs.FrameTables.{Table, frame_of, FramesRise, IsKept}
 use Rattle.jet_window.specs.LateEvents.{late_items, kept_events}
@@ -15,7 +15,7 @@ use Rattle.jet_window.specs.Tables.{Place}
 use Rattle.jet_window.specs.Taken.{is_due, last_mark, due_after, StageInput}
 
 -- the bag law of a frame vertex that holds these frames and began with this mark or none: `told` is what was taken, and in the middle of a call its entry too
-pub record FrameBag (vertex : ℕ) (slide : ℤ) (begun : Option ℤ) (held : List FrameValue) (told taken : List Entry) (given : List Item) : Type 0 where
+pub record FrameBag (vertex : ℕ) (slide : ℤ) (begun : Option ℤ) (held : List FrameValue) (told taken : List CallEntry) (given : List Item) : Type 0 where
   -- an event below the slide's floor of the last mark before it, or of the mark that it began with, is given as late, and late items that were taken pass
   pub lates : lates_of given ≡ late_items vertex slide begun (items_of taken)
   -- each event that was taken is late or kept, once
@@ -34,7 +34,7 @@ pub record FrameBag (vertex : ℕ) (slide : ℤ) (begun : Option ℤ) (held : Li
   pub few : length own + length held ≤ length (kept_events slide begun (items_of taken))
   -- held are only frames that end above the last mark and the one that it began with, and none right after the finish
   pub above : Each (λ f. (is_due begun f.end || is_due (last_mark taken) f.end) ≡ false) held
-  pub ended : (front : List Entry) → taken ≡ front ++ Finish ∷ [] → held ≡ []
+  pub ended : (front : List CallEntry) → taken ≡ front ++ Finish ∷ [] → held ≡ []
   -- no event passes; rows, side rows and idle notes pass
   pub events : events_of given ≡ []
   pub rows : rows_of given ≡ rows_of (items_of taken)
@@ -65,7 +65,7 @@ NoEvent item.Done = Unit {0}
 
 -- what a frame vertex stands for, between calls and within one: within a call it gives only frames that it held, so the
 -- entry of an unfinished call is told and not counted as taken
-pub record FrameStands (vertex : ℕ) (slide : ℤ) (last : Option ℤ) (held : Table) (told taken : List Entry) (given : List Item) : Type 0 where
+pub record FrameStands (vertex : ℕ) (slide : ℤ) (last : Option ℤ) (held : Table) (told taken : List CallEntry) (given : List Item) : Type 0 where
   pub tie : last ≡ last_mark taken
   pub behind_lates : (behind : ℕ → ℕ → Bool) → Sound behind (items_of taken) → Each (LateIsBehind behind) given
   pub no_events : Each NoEvent given
@@ -83,7 +83,7 @@ pub record FrameStands (vertex : ℕ) (slide : ℤ) (last : Option ℤ) (held : 
   pub sums : FramesSum slide (own ++ map (frame_of vertex) held) (kept_events slide None (items_of taken))
   pub few : length own + length held ≤ length (kept_events slide None (items_of taken))
   pub above : Each (λ (f : Place × AccValue). is_due last f.0.0 ≡ false) held
-  pub ended : (front : List Entry) → taken ≡ front ++ Finish ∷ [] → held ≡ []
+  pub ended : (front : List CallEntry) → taken ≡ front ++ Finish ∷ [] → held ≡ []
   pub rows : rows_of given ≡ rows_of (items_of taken)
   pub sides : sides_of given ≡ sides_of (items_of taken)
   pub idles : idles_of given ≡ idles_of (items_of taken)

@@ -13,7 +13,7 @@ use Rattle.jet_items.specs.declared.item.Item.TheVariants as item
 use Rattle.jet_items.proofs.Covering.{Decides-int_le}
 use Rattle.jet_items.proofs.Orders.{Each-append, Each-more, Each-front, Each-back, EachPair-append, EachPair-front, EachPair-across, EachPair-back, Shadows, Sound-front}
 use Rattle.jet_boxes.specs.declared.port.Port.{Port}
-use Rattle.jet_boxes.specs.Entry.{Entry, Given, Told, Closed, Finish, items_of, entry_items, NotFinish, IsData, MayAll, MayCome, NotDone, AnyQueue}
+use Rattle.jet_boxes.specs.Entry.{CallEntry, Given, MarkTold, QueueClosed, Finish, items_of, entry_items, NotFinish, IsData, MayAll, MayCome, NotDone, AnyQueue}
 use Rattle.jet_window.specs.FrameStands.{NoEvent}
 use Rattle.jet_window.specs.Taken.{last_from, last_mark, is_due, is_finished, due_after, StageInput}
 
@@ -59,11 +59,11 @@ from_last P p [] h k = absurd (none_not_some p k)
 from_last P p (w ∷ ws) h k = last_each P w p ws h.0 h.1 k
 
 -- ---- one more
-pub items_push : (taken : List Entry) (e : Entry) → items_of (taken ++ e ∷ []) ≡ items_of taken ++ (entry_items e ++ [])
+pub items_push : (taken : List CallEntry) (e : CallEntry) → items_of (taken ++ e ∷ []) ≡ items_of taken ++ (entry_items e ++ [])
 items_push taken e = flat_map-append entry_items taken (e ∷ [])
 
 -- of what one more entry brings
-pub of_push : {X : Type 0} (f : Item → List X) (taken : List Entry) (e : Entry) → flat_map f (items_of (taken ++ e ∷ [])) ≡ flat_map f (items_of taken) ++ flat_map f (entry_items e ++ [])
+pub of_push : {X : Type 0} (f : Item → List X) (taken : List CallEntry) (e : CallEntry) → flat_map f (items_of (taken ++ e ∷ [])) ≡ flat_map f (items_of taken) ++ flat_map f (entry_items e ++ [])
 of_push f taken e = ap (λ (xs : List Item). flat_map f xs) (items_push taken e) ∙ flat_map-append f (items_of taken) (entry_items e ++ [])
 
 -- where one more brings nothing
@@ -122,14 +122,14 @@ data_open item.Idle h = tt
 data_open (item.Mark e) h = tt
 data_open item.Done h = absurd h
 
-pub closed_last : (taken : List Entry) (port : Port) (q : ℕ) → last_mark (taken ++ Closed port q ∷ []) ≡ last_mark taken
-closed_last taken port q = ap (λ (xs : List Item). last_from None (marks_of xs)) (items_push taken (Closed port q) ∙ append-nil (items_of taken))
+pub closed_last : (taken : List CallEntry) (port : Port) (q : ℕ) → last_mark (taken ++ QueueClosed port q ∷ []) ≡ last_mark taken
+closed_last taken port q = ap (λ (xs : List Item). last_from None (marks_of xs)) (items_push taken (QueueClosed port q) ∙ append-nil (items_of taken))
 
 -- a mark that is told is the last
-pub told_last : (taken : List Entry) (t : ℤ) → last_mark (taken ++ Told t ∷ []) ≡ Some t
-told_last taken t = ap (λ (xs : List Item). last_from None (marks_of xs)) (items_push taken (Told t)) ∙ (ap (last_from None) (flat_map-append as_mark (items_of taken) (item.Mark t ∷ [])) ∙ last_push None (marks_of (items_of taken)) t)
+pub told_last : (taken : List CallEntry) (t : ℤ) → last_mark (taken ++ MarkTold t ∷ []) ≡ Some t
+told_last taken t = ap (λ (xs : List Item). last_from None (marks_of xs)) (items_push taken (MarkTold t)) ∙ (ap (last_from None) (flat_map-append as_mark (items_of taken) (item.Mark t ∷ [])) ∙ last_push None (marks_of (items_of taken)) t)
 
-pub same_last : (taken : List Entry) (port : Port) (q : ℕ) (x : Item) → as_mark x ≡ [] → last_mark (taken ++ Given port q x ∷ []) ≡ last_mark taken
+pub same_last : (taken : List CallEntry) (port : Port) (q : ℕ) (x : Item) → as_mark x ≡ [] → last_mark (taken ++ Given port q x ∷ []) ≡ last_mark taken
 same_last taken port q x none = ap (last_from None) (ap marks_of (items_push taken (Given port q x)) ∙ of_none as_mark (items_of taken) x none)
 
 -- ---- marks and what comes after them
@@ -185,81 +185,81 @@ marks_sound behind y (item.Mark w ∷ xs) h = (h.0.0, marks_sound behind y xs h.
 marks_sound behind y (item.Done ∷ xs) h = marks_sound behind y xs h.1
 
 -- ---- what was taken before was as it is to be
-pub sound_front : (behind : ℕ → ℕ → Bool) (taken : List Entry) (e : Entry) → Sound behind (items_of (taken ++ e ∷ [])) → Sound behind (items_of taken)
+pub sound_front : (behind : ℕ → ℕ → Bool) (taken : List CallEntry) (e : CallEntry) → Sound behind (items_of (taken ++ e ∷ [])) → Sound behind (items_of taken)
 sound_front behind taken e h = Sound-front behind (items_of taken) (entry_items e ++ []) (subst (Sound behind) (items_push taken e) h)
 
-pub closed_front : (taken : List Entry) (e : Entry) → EachPair ClosedAfter (items_of (taken ++ e ∷ [])) → EachPair ClosedAfter (items_of taken)
+pub closed_front : (taken : List CallEntry) (e : CallEntry) → EachPair ClosedAfter (items_of (taken ++ e ∷ [])) → EachPair ClosedAfter (items_of taken)
 closed_front taken e h = EachPair-front ClosedAfter (items_of taken) (entry_items e ++ []) (subst (EachPair ClosedAfter) (items_push taken e) h)
 
-pub comes_front : (taken : List Entry) (e : Entry) → MayAll AnyQueue (taken ++ e ∷ []) → MayAll AnyQueue taken
-comes_front taken e h = λ front x rest is. h front x (rest ++ e ∷ []) (ap (λ (es : List Entry). es ++ e ∷ []) is ∙ append_assoc front (x ∷ rest) (e ∷ []))
+pub comes_front : (taken : List CallEntry) (e : CallEntry) → MayAll AnyQueue (taken ++ e ∷ []) → MayAll AnyQueue taken
+comes_front taken e h = λ front x rest is. h front x (rest ++ e ∷ []) (ap (λ (es : List CallEntry). es ++ e ∷ []) is ∙ append_assoc front (x ∷ rest) (e ∷ []))
 
-come_open : (taken : List Entry) (e : Entry) → MayCome AnyQueue taken e → Each NotFinish taken
+come_open : (taken : List CallEntry) (e : CallEntry) → MayCome AnyQueue taken e → Each NotFinish taken
 come_open taken (Given port q x) h = h.0
-come_open taken (Told t) h = h
-come_open taken (Closed port q) h = h.0
+come_open taken (MarkTold t) h = h
+come_open taken (QueueClosed port q) h = h.0
 come_open taken Finish h = h
 
-pub input_front : (taken : List Entry) (e : Entry) → StageInput (taken ++ e ∷ []) → StageInput taken
+pub input_front : (taken : List CallEntry) (e : CallEntry) → StageInput (taken ++ e ∷ []) → StageInput taken
 input_front taken e h = record { closed = record { after = closed_front taken e h.closed.after }; comes = comes_front taken e h.comes }
 
-pub input_open : (taken : List Entry) (e : Entry) → StageInput (taken ++ e ∷ []) → Each NotFinish taken
+pub input_open : (taken : List CallEntry) (e : CallEntry) → StageInput (taken ++ e ∷ []) → Each NotFinish taken
 input_open taken e h = come_open taken e (h.comes taken e [] refl)
 
 -- the marks taken are below what came after them
-pub input_above : (taken : List Entry) (e : Entry) → StageInput (taken ++ e ∷ []) → Each (λ w. Each (IsAbove w) (entry_items e ++ [])) (marks_of (items_of taken))
+pub input_above : (taken : List CallEntry) (e : CallEntry) → StageInput (taken ++ e ∷ []) → Each (λ w. Each (IsAbove w) (entry_items e ++ [])) (marks_of (items_of taken))
 input_above taken e h = marks_before (items_of taken) (entry_items e ++ []) (EachPair-across ClosedAfter (items_of taken) (entry_items e ++ []) (subst (EachPair ClosedAfter) (items_push taken e) h.closed.after))
 
 -- ---- the finish
-pub not_finished : (taken : List Entry) → is_finished taken ≡ false → Each NotFinish taken
+pub not_finished : (taken : List CallEntry) → is_finished taken ≡ false → Each NotFinish taken
 not_finished [] h = tt
 not_finished (Given port q x ∷ es) h = (tt, not_finished es h)
-not_finished (Told t ∷ es) h = (tt, not_finished es h)
-not_finished (Closed port q ∷ es) h = (tt, not_finished es h)
+not_finished (MarkTold t ∷ es) h = (tt, not_finished es h)
+not_finished (QueueClosed port q ∷ es) h = (tt, not_finished es h)
 not_finished (Finish ∷ es) h = absurd (never h)
   where
     never : true ≡ false → ⊥
     never e = absurd (cc)
 
-pub unfinished : (taken : List Entry) → Each NotFinish taken → is_finished taken ≡ false
+pub unfinished : (taken : List CallEntry) → Each NotFinish taken → is_finished taken ≡ false
 unfinished [] h = refl
 unfinished (Given port q x ∷ es) h = unfinished es h.1
-unfinished (Told t ∷ es) h = unfinished es h.1
-unfinished (Closed port q ∷ es) h = unfinished es h.1
+unfinished (MarkTold t ∷ es) h = unfinished es h.1
+unfinished (QueueClosed port q ∷ es) h = unfinished es h.1
 unfinished (Finish ∷ es) h = absurd h.0
 
-pub finished_last : (taken : List Entry) → is_finished (taken ++ Finish ∷ []) ≡ true
+pub finished_last : (taken : List CallEntry) → is_finished (taken ++ Finish ∷ []) ≡ true
 finished_last [] = refl
 finished_last (Given port q x ∷ es) = finished_last es
-finished_last (Told t ∷ es) = finished_last es
-finished_last (Closed port q ∷ es) = finished_last es
+finished_last (MarkTold t ∷ es) = finished_last es
+finished_last (QueueClosed port q ∷ es) = finished_last es
 finished_last (Finish ∷ es) = refl
 
 -- nothing was finished before what may still come
-pub never_finished : (taken : List Entry) → is_finished taken ≡ true → Each NotFinish taken → ⊥
+pub never_finished : (taken : List CallEntry) → is_finished taken ≡ true → Each NotFinish taken → ⊥
 never_finished [] h k = absurd (cc)
 never_finished (Given port q x ∷ es) h k = never_finished es h k.1
-never_finished (Told t ∷ es) h k = never_finished es h k.1
-never_finished (Closed port q ∷ es) h k = never_finished es h k.1
+never_finished (MarkTold t ∷ es) h k = never_finished es h k.1
+never_finished (QueueClosed port q ∷ es) h k = never_finished es h k.1
 never_finished (Finish ∷ es) h k = k.0
 
 -- ---- what is due after one more entry
 -- an entry that is neither a mark nor the finish makes nothing due
-pub finished_same : (taken : List Entry) (e : Entry) → NotFinish e → is_finished (taken ++ e ∷ []) ≡ is_finished taken
+pub finished_same : (taken : List CallEntry) (e : CallEntry) → NotFinish e → is_finished (taken ++ e ∷ []) ≡ is_finished taken
 finished_same [] (Given port q x) n = refl
-finished_same [] (Told t) n = refl
-finished_same [] (Closed port q) n = refl
+finished_same [] (MarkTold t) n = refl
+finished_same [] (QueueClosed port q) n = refl
 finished_same [] Finish n = absurd n
 finished_same (Given port q x ∷ es) e n = finished_same es e n
-finished_same (Told t ∷ es) e n = finished_same es e n
-finished_same (Closed port q ∷ es) e n = finished_same es e n
+finished_same (MarkTold t ∷ es) e n = finished_same es e n
+finished_same (QueueClosed port q ∷ es) e n = finished_same es e n
 finished_same (Finish ∷ es) e n = refl
 
-pub given_same : (taken : List Entry) (port : Port) (q : ℕ) (x : Item) (e : ℤ) → as_mark x ≡ [] → due_after (taken ++ Given port q x ∷ []) e ≡ due_after taken e
+pub given_same : (taken : List CallEntry) (port : Port) (q : ℕ) (x : Item) (e : ℤ) → as_mark x ≡ [] → due_after (taken ++ Given port q x ∷ []) e ≡ due_after taken e
 given_same taken port q x e none = rw (finished_same taken (Given port q x) tt, same_last taken port q x none) refl
 
-pub closed_same : (taken : List Entry) (port : Port) (q : ℕ) (e : ℤ) → due_after (taken ++ Closed port q ∷ []) e ≡ due_after taken e
-closed_same taken port q e = rw (finished_same taken (Closed port q) tt, closed_last taken port q) refl
+pub closed_same : (taken : List CallEntry) (port : Port) (q : ℕ) (e : ℤ) → due_after (taken ++ QueueClosed port q ∷ []) e ≡ due_after taken e
+closed_same taken port q e = rw (finished_same taken (QueueClosed port q) tt, closed_last taken port q) refl
 
 either_true : (b c : Bool) → c ≡ true → (b || c) ≡ true
 either_true true c h = refl
@@ -274,63 +274,63 @@ second_true true c h k = absurd (cc)
 second_true false c h k = k
 
 -- before the finish, what the last mark closed
-pub open_due : (taken : List Entry) (e : ℤ) → Each NotFinish taken → due_after taken e ≡ true → is_due (last_mark taken) e ≡ true
+pub open_due : (taken : List CallEntry) (e : ℤ) → Each NotFinish taken → due_after taken e ≡ true → is_due (last_mark taken) e ≡ true
 open_due taken e h d = second_true (is_finished taken) (is_due (last_mark taken) e) (unfinished taken h) d
 
-last_due : (taken : List Entry) (o : Option ℤ) (e : ℤ) → last_mark taken ≡ o → is_due o e ≡ true → due_after taken e ≡ true
+last_due : (taken : List CallEntry) (o : Option ℤ) (e : ℤ) → last_mark taken ≡ o → is_due o e ≡ true → due_after taken e ≡ true
 last_due taken o e is d = either_true (is_finished taken) (is_due (last_mark taken) e) (subst (λ (z : Option ℤ). is_due z e ≡ true) (sym is) d)
 
 -- what the last mark did not close is not due
-pub open_due_false : (taken : List Entry) (e : ℤ) → Each NotFinish taken → is_due (last_mark taken) e ≡ false → due_after taken e ≡ false
+pub open_due_false : (taken : List CallEntry) (e : ℤ) → Each NotFinish taken → is_due (last_mark taken) e ≡ false → due_after taken e ≡ false
 open_due_false taken e h d = rw (unfinished taken h) d
 
 -- after a mark what it closes is due, and no more
-pub told_same : (taken : List Entry) (t e : ℤ) → Each NotFinish taken → due_after (taken ++ Told t ∷ []) e ≡ int_le e t
-told_same taken t e h = rw (finished_same taken (Told t) tt, unfinished taken h, told_last taken t) refl
+pub told_same : (taken : List CallEntry) (t e : ℤ) → Each NotFinish taken → due_after (taken ++ MarkTold t ∷ []) e ≡ int_le e t
+told_same taken t e h = rw (finished_same taken (MarkTold t) tt, unfinished taken h, told_last taken t) refl
 
 -- after a mark all up to it, after the finish all
-pub told_due : (taken : List Entry) (t e : ℤ) → e ≤ℤ t → due_after (taken ++ Told t ∷ []) e ≡ true
-told_due taken t e h = last_due (taken ++ Told t ∷ []) (Some t) e (told_last taken t) ((Decides-int_le e t).1 h)
+pub told_due : (taken : List CallEntry) (t e : ℤ) → e ≤ℤ t → due_after (taken ++ MarkTold t ∷ []) e ≡ true
+told_due taken t e h = last_due (taken ++ MarkTold t ∷ []) (Some t) e (told_last taken t) ((Decides-int_le e t).1 h)
 
-pub finish_due : (taken : List Entry) (e : ℤ) → due_after (taken ++ Finish ∷ []) e ≡ true
+pub finish_due : (taken : List CallEntry) (e : ℤ) → due_after (taken ++ Finish ∷ []) e ≡ true
 finish_due taken e = first_true (is_finished (taken ++ Finish ∷ [])) (is_due (last_mark (taken ++ Finish ∷ [])) e) (finished_last taken)
 
 -- a mark that is told next is above what was closed
-pub told_above : (taken : List Entry) (t e : ℤ) → StageInput (taken ++ Told t ∷ []) → is_due (last_mark taken) e ≡ true → e ≤ℤ t
+pub told_above : (taken : List CallEntry) (t e : ℤ) → StageInput (taken ++ MarkTold t ∷ []) → is_due (last_mark taken) e ≡ true → e ≤ℤ t
 told_above taken t e i d = above (last_mark taken) refl d
   where
     above : (o : Option ℤ) → last_mark taken ≡ o → is_due o e ≡ true → e ≤ℤ t
     above None is d = absurd (cc)
     above (Some p) is d =
-        let below : Each (λ w. w <ℤ t) (marks_of (items_of taken)) = Each-more (λ w. Each (IsAbove w) (item.Mark t ∷ [])) (λ w. w <ℤ t) (λ w k. k.0) (marks_of (items_of taken)) (input_above taken (Told t) i) in
+        let below : Each (λ w. w <ℤ t) (marks_of (items_of taken)) = Each-more (λ w. Each (IsAbove w) (item.Mark t ∷ [])) (λ w. w <ℤ t) (λ w k. k.0) (marks_of (items_of taken)) (input_above taken (MarkTold t) i) in
         let lt : p <ℤ t = from_last (λ w. w <ℤ t) p (marks_of (items_of taken)) below is in
         let le : e ≤ℤ p = (Decides-int_le e p).0 d in
         omega (arith, ints)
 
-come_data : (taken : List Entry) (port : Port) (q : ℕ) (x : Item) → StageInput (taken ++ Given port q x ∷ []) → IsData x
+come_data : (taken : List CallEntry) (port : Port) (q : ℕ) (x : Item) → StageInput (taken ++ Given port q x ∷ []) → IsData x
 come_data taken port q x i = (i.comes taken (Given port q x) [] refl).2
 
 -- what the last mark closed stays due
-pub due_next : (taken : List Entry) (entry : Entry) → StageInput (taken ++ entry ∷ []) → (e : ℤ) → is_due (last_mark taken) e ≡ true → due_after (taken ++ entry ∷ []) e ≡ true
+pub due_next : (taken : List CallEntry) (entry : CallEntry) → StageInput (taken ++ entry ∷ []) → (e : ℤ) → is_due (last_mark taken) e ≡ true → due_after (taken ++ entry ∷ []) e ≡ true
 due_next taken (Given port q x) i e d = last_due (taken ++ Given port q x ∷ []) (last_mark taken) e (same_last taken port q x (marks_none x (come_data taken port q x i))) d
-due_next taken (Told t) i e d = told_due taken t e (told_above taken t e i d)
-due_next taken (Closed port q) i e d = last_due (taken ++ Closed port q ∷ []) (last_mark taken) e (closed_last taken port q) d
+due_next taken (MarkTold t) i e d = told_due taken t e (told_above taken t e i d)
+due_next taken (QueueClosed port q) i e d = last_due (taken ++ QueueClosed port q ∷ []) (last_mark taken) e (closed_last taken port q) d
 due_next taken Finish i e d = finish_due taken e
 
 -- after an item that is no mark nothing more is due
-pub due_before : (taken : List Entry) (port : Port) (q : ℕ) (x : Item) (e : ℤ) → as_mark x ≡ [] → StageInput (taken ++ Given port q x ∷ []) → due_after (taken ++ Given port q x ∷ []) e ≡ true → is_due (last_mark taken) e ≡ true
+pub due_before : (taken : List CallEntry) (port : Port) (q : ℕ) (x : Item) (e : ℤ) → as_mark x ≡ [] → StageInput (taken ++ Given port q x ∷ []) → due_after (taken ++ Given port q x ∷ []) e ≡ true → is_due (last_mark taken) e ≡ true
 due_before taken port q x e none i d = open_due taken e (input_open taken (Given port q x) i) (sym (given_same taken port q x e none) ∙ d)
 
-abbrev last_or : Entry → List Entry → Entry
+abbrev last_or : CallEntry → List CallEntry → CallEntry
 last_or d [] = d
 last_or d (e ∷ es) = last_or e es
 
-last_or-push : (d : Entry) (es : List Entry) (e : Entry) → last_or d (es ++ e ∷ []) ≡ e
+last_or-push : (d : CallEntry) (es : List CallEntry) (e : CallEntry) → last_or d (es ++ e ∷ []) ≡ e
 last_or-push d [] e = refl
 last_or-push d (x ∷ es) e = last_or-push x es e
 
 -- an entry that is not the finish comes last
-pub not_last : (taken : List Entry) (e : Entry) → NotFinish e → (front : List Entry) → taken ++ e ∷ [] ≡ front ++ Finish ∷ [] → ⊥
+pub not_last : (taken : List CallEntry) (e : CallEntry) → NotFinish e → (front : List CallEntry) → taken ++ e ∷ [] ≡ front ++ Finish ∷ [] → ⊥
 not_last taken e n front is = subst NotFinish (sym (last_or-push e taken e) ∙ (ap (last_or e) is ∙ last_or-push e front Finish)) n
 
 -- ---- no event is given

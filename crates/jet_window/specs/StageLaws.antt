@@ -9,7 +9,7 @@ use Rattle.jet_items.specs.Totals.{total, both}
 use Rattle.jet_items.specs.Values.{AccValue, EventValue, FrameValue, RowValue}
 use Rattle.jet_items.specs.declared.item.Item.{Item}
 use Rattle.jet_policy.specs.Policy.{IsPolicy}
-use Rattle.jet_boxes.specs.Entry.{Entry, Finish, items_of}
+use Rattle.jet_boxes.specs.Entry.{CallEntry, Finish, items_of}
 use Rattle.jet_window.specs.FrameStands.{FrameBag}
 use Rattle.jet_window.specs.InOrder.{IsInOrder}
 use Rattle.jet_window.specs.LateEvents.{kept_events}
@@ -18,7 +18,7 @@ use Rattle.jet_window.specs.WindowRows.{as_list, rows_at, RowsAre}
 
 -- right after the finish, the frames that a frame vertex gave sum the events that it kept, where it took no frame
 abbrev pub FramesSumKept : Type 0
-FramesSumKept = (vertex : ℕ) (slide : ℤ) (begun : Option ℤ) (held : List FrameValue) (front told taken : List Entry) (given : List Item)
+FramesSumKept = (vertex : ℕ) (slide : ℤ) (begun : Option ℤ) (held : List FrameValue) (front told taken : List CallEntry) (given : List Item)
     → FrameBag vertex slide begun held told taken given → taken ≡ front ++ Finish ∷ [] → frames_of (items_of taken) ≡ []
     → FramesSum slide (frames_of given) (kept_events slide begun (items_of taken))
 
@@ -59,8 +59,8 @@ OneRowEach = (w : Window) (due : List ℕ → ℤ → Bool) (events : List Event
     → IsRowFor (rows_at e key rows) (map first_value (members w.size e key events))
 
 -- the windows of n vertices, each with its own events
-abbrev pub inflows : ℕ → (ℕ → Inflow) → List Inflow
-inflows n entered = all_of n (λ i. entered i ∷ [])
+abbrev pub instance_inflows : ℕ → (ℕ → Inflow) → List Inflow
+instance_inflows n entered = all_of n (λ i. entered i ∷ [])
 
 -- the rows of n windows, together and in order, are the rows of these windows
 abbrev pub OrderedAreRows : Type 0
@@ -69,7 +69,7 @@ OrderedAreRows = (n : ℕ) (entered : ℕ → Inflow) (parts : ℕ → List RowV
     → ((i j : ℕ) → i < n → j < n → (entered i).window.vertex ≡ (entered j).window.vertex → i ≡ j)
     → ((i : ℕ) → i < n → RowsOver (entered i).window (λ key e. true) [] (entered i).events (parts i))
     → SameBag rows (all_of n parts) → IsInOrder rows
-    → AreRows (inflows n entered) rows
+    → AreRows (instance_inflows n entered) rows
 
 -- so many slides, one after another
 abbrev pub slides : ℤ → ℕ → ℤ
@@ -91,6 +91,6 @@ FewRows = (vertex : ℕ) (size slide : ℤ) (due : ℤ → Bool) (frames : List 
 
 -- where a frame vertex took no data but events, it gave at most one frame or late item for each, and no other data
 abbrev pub FewFrames : Type 0
-FewFrames = (vertex : ℕ) (slide : ℤ) (begun : Option ℤ) (held : List FrameValue) (told taken : List Entry) (given : List Item)
+FewFrames = (vertex : ℕ) (slide : ℤ) (begun : Option ℤ) (held : List FrameValue) (told taken : List CallEntry) (given : List Item)
     → FrameBag vertex slide begun held told taken given → others_of (items_of taken) ≡ []
     → length (data_of given) ≤ length (events_of (items_of taken))

@@ -6,15 +6,15 @@ ghost use Rattle.jet_items.specs.Kinds.{marks_of};
 ghost use Rattle.jet_items.specs.Order.{Sound, Closed as ClosedItems};
 ghost use Rattle.jet_items.specs.Ranges.{IsWithin, most_row_end};
 ghost use Rattle.jet_items.specs.declared.item.Item.{Item};
-ghost use Rattle.jet_boxes.specs.Entry.{Entry, Given, Told, Closed, Finish, items_of};
+ghost use Rattle.jet_boxes.specs.Entry.{CallEntry, Given, MarkTold, QueueClosed, Finish, items_of};
 ghost use Rattle.jet_window.specs.CombineCalls.{Stands, Amid, Alike, CombineCall, CombineMayCall};
 ghost use Rattle.jet_window.specs.CombineStands.{CombineBag, CombineBagAmid, CombineStands, IsFrame, Gave, PutsReady};
 ghost use Rattle.jet_window.specs.CombineView.{combine_of};
 ghost use Rattle.jet_window.specs.Combining.{Forgets, Clear, OpenAbove, Passes};
 ghost use Rattle.jet_window.specs.FrameTables.{frame_of, IsKept};
-ghost use Rattle.jet_window.specs.NextEnds.{IsNextEnd};
+ghost use Rattle.jet_window.specs.inner.NextEnds.{IsNextEnd};
 ghost use Rattle.jet_window.specs.Taken.{due_after, StageInput};
-ghost use Rattle.jet_window.specs.WindowOf.{WindowOf};
+ghost use Rattle.jet_window.specs.inner.WindowOf.{WindowOf};
 
 use crate::held::{end_above, keep, window_rows};
 use jet_boxes::{Outbox, Port, Processor};
@@ -221,8 +221,8 @@ impl Processor for CombineP {
     }
 
     fn mark(&mut self, mark: Mark, out: &mut Outbox) -> Result<bool, NoMemory>
-        requires { CombineMayCall self.old (Told mark) }
-        ensures call { CombineCall self.old (Told mark) out.old result self.new out.new }
+        requires { CombineMayCall self.old (MarkTold mark) }
+        ensures call { CombineCall self.old (MarkTold mark) out.old result self.new out.new }
         ensures memory { OnErr result (Clear self.old.policy.size self.old.policy.slide self.old.passed self.old.held.entries mark → ⊥) }
     {
         if !self.give_until(mark.t, out)? {
@@ -238,7 +238,7 @@ impl Processor for CombineP {
     }
 
     fn close_queue(&mut self, _port: Port, _queue: u32, _out: &mut Outbox) -> bool
-        ensures call { CombineCall self.old (Closed _port _queue) _out.old (Ok result) self.new _out.new }
+        ensures call { CombineCall self.old (QueueClosed _port _queue) _out.old (Ok result) self.new _out.new }
         ensures ends { result ≡ true }
     {
         true

@@ -9,9 +9,9 @@ ghost use Rattle.jet_items.specs.Totals.{one};
 ghost use Rattle.jet_items.specs.Kinds.{marks_of};
 ghost use Rattle.jet_items.specs.Order.{Sound, Closed as ClosedItems};
 ghost use Rattle.jet_items.specs.declared.item.Item.{Item};
-ghost use Rattle.jet_boxes.specs.Entry.{Entry, Given, Told, Closed, Finish, items_of};
+ghost use Rattle.jet_boxes.specs.Entry.{CallEntry, Given, MarkTold, QueueClosed, Finish, items_of};
 ghost use Rattle.jet_window.specs.FrameCalls.{Stands, Amid, Alike, FrameCall, FrameMayCall};
-ghost use Rattle.jet_window.specs.FrameMoves.{Moved, StopsAbove};
+ghost use Rattle.jet_window.specs.inner.FrameMoves.{Moved, StopsAbove};
 ghost use Rattle.jet_window.specs.FrameStands.{FrameStands, FrameBag, IsEvent};
 ghost use Rattle.jet_window.specs.FrameTables.{frame_of, joined_in, IsKept};
 ghost use Rattle.jet_window.specs.LateEvents.{is_late};
@@ -151,8 +151,8 @@ impl Processor for FrameP {
     }
 
     fn mark(&mut self, mark: Mark, out: &mut Outbox) -> Result<bool, NoMemory>
-        requires { FrameMayCall self.old (Told mark) }
-        ensures call { FrameCall self.old (Told mark) out.old result self.new out.new }
+        requires { FrameMayCall self.old (MarkTold mark) }
+        ensures call { FrameCall self.old (MarkTold mark) out.old result self.new out.new }
         ensures memory { IsOk result }
     {
         if !self.give_closed(mark.t, out) {
@@ -166,7 +166,7 @@ impl Processor for FrameP {
     }
 
     fn close_queue(&mut self, _port: Port, _queue: u32, _out: &mut Outbox) -> bool
-        ensures call { FrameCall self.old (Closed _port _queue) _out.old (Ok result) self.new _out.new }
+        ensures call { FrameCall self.old (QueueClosed _port _queue) _out.old (Ok result) self.new _out.new }
         ensures ends { result ≡ true }
     {
         true

@@ -2,8 +2,8 @@
 ghost use Rattle.std.specs.Prelude.{◌≡◌, OnOk, OnErr, IfOk, ◌≤ℤ◌, pos};
 ghost use Rattle.jet_items.specs.Ranges.{IsWithin, most_frame_end, most_row_end};
 ghost use Rattle.jet_window.specs.FrameTables.{joined_in, with_acc};
-ghost use Rattle.jet_window.specs.NextEnds.{IsEndAbove};
-ghost use Rattle.jet_window.specs.WindowOf.{WindowOf, key_joined};
+ghost use Rattle.jet_window.specs.inner.NextEnds.{IsEndAbove};
+ghost use Rattle.jet_window.specs.inner.WindowOf.{WindowOf, key_joined};
 
 use jet_items::{Acc, Key, Mark, NoMemory};
 use jet_policy::WinPolicy;

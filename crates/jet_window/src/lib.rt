@@ -30,6 +30,6 @@ pub use stages::{
 };
 
 #[cfg(test)]
-mod stage_tests;
+mod tests_stages;
 #[cfg(test)]
 mod tests;

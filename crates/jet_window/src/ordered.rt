@@ -20,10 +20,10 @@ pub struct OrderedRows {
 }
 
 impl Model for OrderedRows {
-    ghost use Rattle.jet_window.specs.Held.{Held};
+    ghost use Rattle.jet_window.specs.Held.{WaitingRows};
     ghost use Rattle.jet_window.specs.InOrder.{IsInOrder};
 
-    ghost Value = { Held };
+    ghost Value = { WaitingRows };
 
     ghost view = { λ o. record { rows = o.rows.items; passed = o.passed; closed = o.closed } };
 

@@ -6,12 +6,12 @@ use Rattle.std.proofs.Math.Seq.{take-suc}
 use Rattle.std.proofs.lemmas.List.{drop_all, drop_more, get_or-map, length-map, take-append-drop, take-map, take_all}
 use Rattle.std.proofs.lemmas.List.Elements.{All-get_or}
 use Rattle.std.proofs.lemmas.List.FromFn.{get_or-enumerate_from, length-enumerate_from}
-use Rattle.jet_file.specs.Outside.{Goes, Told}
+use Rattle.jet_file.specs.Outside.{WhereTold, Told}
 use Rattle.jet_flow.specs.DataFiles.{DataFile, file_name}
 use Rattle.jet_worker.specs.CheckText.{Checks}
 use Rattle.jet_worker.specs.Checked.{AreThere, CheckStops, IsChecked, numbered}
-use Rattle.jet_worker.specs.FileChecks.{HasChecked, StopsChecking}
-use Rattle.jet_worker.specs.Opening.{AreApart, AreNew, HasLag, HasOpened, Opened, StopsOpening, pair_of}
+use Rattle.jet_worker.specs.inner.FileChecks.{HasChecked, StopsChecking}
+use Rattle.jet_worker.specs.inner.Opening.{AreApart, AreNew, HasLag, HasOpened, Opened, StopsOpening, pair_of}
 use Rattle.jet_worker.specs.Stopping.{IsNoBadLine, OpenOutcome, Outcome}
 use Rattle.jet_worker.specs.declared.stop.Stop.{Stop}
 use Rattle.jet_worker.specs.declared.stop.Stop.TheVariants.{NoMemory}
@@ -24,7 +24,7 @@ use Rattle.jet_worker.proofs.StopLemmas.{IsAt, file_stops, nothing_begun, openin
 pub record Checking {S : Type 0} (told : S → Option Told) (opened : S → ℕ → Bool) (steady : S → Bool) (faults : S → ℕ) (files : List DataFile) (most : ℕ) (unit : ℤ) (all : List Opened) (n : ℕ) (start now : S) : Type 0 where
   pub numbers : AreNew (opened start) (opened now) all
   pub pairs : map pair_of all ≡ enumerate_from 0 files
-  pub told_so : (c : Checks) → c.files ≡ files → c.most ≡ most → unit ≡ pos c.unit → Goes (HasDone c (take n all) (drop n all)) (told start) (told now)
+  pub told_so : (c : Checks) → c.files ≡ files → c.most ≡ most → unit ≡ pos c.unit → WhereTold (HasDone c (take n all) (drop n all)) (told start) (told now)
   pub steady_same : steady now ≡ steady start
   pub faults_same : faults now ≡ faults start
 
@@ -74,7 +74,7 @@ all_there c all a b pairs h n d short =
 -- ---- the start
 
 pub checking_starts : {S : Type 0} (told : S → Option Told) (opened : S → ℕ → Bool) (steady : S → Bool) (faults : S → ℕ) (files : List DataFile) (most : ℕ) (unit : ℤ) (all : List Opened) (start now : S)
-    → ((c : Checks) → c.files ≡ files → map pair_of all ≡ numbered c) → AreNew (opened start) (opened now) all → Goes (HasOpened all) (told start) (told now) → steady now ≡ steady start → faults now ≡ faults start
+    → ((c : Checks) → c.files ≡ files → map pair_of all ≡ numbered c) → AreNew (opened start) (opened now) all → WhereTold (HasOpened all) (told start) (told now) → steady now ≡ steady start → faults now ≡ faults start
     → Checking told opened steady faults files most unit all 0 start now
 checking_starts told opened steady faults files most unit all start now pairs numbers opens steady_same faults_same = record {
   numbers = numbers;
@@ -88,7 +88,7 @@ checking_starts told opened steady faults files most unit all start now pairs nu
 
 pub checking_more : {S : Type 0} (told : S → Option Told) (opened : S → ℕ → Bool) (steady : S → Bool) (faults : S → ℕ) (files : List DataFile) (most : ℕ) (unit : ℤ) (all : List Opened) (n : ℕ) (start now next : S) (d : Opened)
     → Checking told opened steady faults files most unit all n start now → n < length all
-    → ((c : Checks) → c.most ≡ most → unit ≡ pos c.unit → Goes (HasChecked c (pair_of (get_or all n d)) (get_or all n d).at) (told now) (told next))
+    → ((c : Checks) → c.most ≡ most → unit ≡ pos c.unit → WhereTold (HasChecked c (pair_of (get_or all n d)) (get_or all n d).at) (told now) (told next))
     → opened next ≡ opened now → steady next ≡ steady now → faults next ≡ faults now → Checking told opened steady faults files most unit all (n + 1) start next
 checking_more told opened steady faults files most unit all n start now next d h short checks opened_same steady_same faults_same =
     let o : Opened = get_or all n d in
@@ -96,11 +96,11 @@ checking_more told opened steady faults files most unit all n start now next d h
       numbers = subst (λ (f : ℕ → Bool). AreNew (opened start) f all) (sym opened_same) h.numbers;
       pairs = h.pairs;
       told_so = λ c is most_is unit_is.
-          subst (λ (l : List Opened). Goes (HasDone c l (drop (n + 1) all)) (told start) (told next)) (sym (first_more all n d short))
+          subst (λ (l : List Opened). WhereTold (HasDone c l (drop (n + 1) all)) (told start) (told next)) (sym (first_more all n d short))
           (goes_then (HasDone c (take n all) (get_or all n d ∷ drop (n + 1) all)) (HasChecked c (pair_of (get_or all n d)) (get_or all n d).at) (HasDone c (take n all ++ get_or all n d ∷ []) (drop (n + 1) all))
           (λ a b e r s. one_done c (take n all) (drop (n + 1) all) (get_or all n d) a b e (apart_in (take n all) (drop (n + 1) all) (get_or all n d) (subst AreApart (parts_at all n d short) h.numbers.apart)) r s)
           (told start) (told now) (told next)
-          (subst (λ (l : List Opened). Goes (HasDone c (take n all) l) (told start) (told now)) (drop_more all n d short) (h.told_so c is most_is unit_is)) (checks c most_is unit_is));
+          (subst (λ (l : List Opened). WhereTold (HasDone c (take n all) l) (told start) (told now)) (drop_more all n d short) (h.told_so c is most_is unit_is)) (checks c most_is unit_is));
       steady_same = steady_same ∙ h.steady_same;
       faults_same = faults_same ∙ h.faults_same;
     }
@@ -109,25 +109,25 @@ checking_more told opened steady faults files most unit all n start now next d h
 
 pub checking_ends : {S : Type 0} (told : S → Option Told) (opened : S → ℕ → Bool) (steady : S → Bool) (faults : S → ℕ) (files : List DataFile) (most : ℕ) (unit : ℤ) (all : List Opened) (n : ℕ) (start now : S)
     → Checking told opened steady faults files most unit all n start now → length all ≤ n
-    → (c : Checks) → c.files ≡ files → c.most ≡ most → unit ≡ pos c.unit → Goes (IsChecked c (opened start) (opened now)) (told start) (told now)
+    → (c : Checks) → c.files ≡ files → c.most ≡ most → unit ≡ pos c.unit → WhereTold (IsChecked c (opened start) (opened now)) (told start) (told now)
 checking_ends told opened steady faults files most unit all n start now h end c is most_is unit_is =
     goes_weaker (HasDone c all (drop n all)) (IsChecked c (opened start) (opened now))
     (λ a b r. all_done c (opened start) (opened now) all (drop n all) a b (h.pairs ∙ sym (ap (enumerate_from 0) is)) (drop_all n all end) h.numbers r) (told start) (told now)
-    (subst (λ (l : List Opened). Goes (HasDone c l (drop n all)) (told start) (told now)) (take_all n all end) (h.told_so c is most_is unit_is))
+    (subst (λ (l : List Opened). WhereTold (HasDone c l (drop n all)) (told start) (told now)) (take_all n all end) (h.told_so c is most_is unit_is))
 
 pub checking_stops : {S : Type 0} (told : S → Option Told) (opened : S → ℕ → Bool) (steady : S → Bool) (faults : S → ℕ) (files : List DataFile) (most : ℕ) (unit : ℤ) (all : List Opened) (n : ℕ) (start now next : S) (d : Opened) (stop : Stop)
     → Checking told opened steady faults files most unit all n start now → n < length all
-    → ((c : Checks) → c.most ≡ most → unit ≡ pos c.unit → Goes (StopsChecking c (pair_of (get_or all n d)) (get_or all n d).at stop) (told now) (told next))
-    → (c : Checks) → c.files ≡ files → c.most ≡ most → unit ≡ pos c.unit → Goes (CheckStops c stop) (told start) (told next)
+    → ((c : Checks) → c.most ≡ most → unit ≡ pos c.unit → WhereTold (StopsChecking c (pair_of (get_or all n d)) (get_or all n d).at stop) (told now) (told next))
+    → (c : Checks) → c.files ≡ files → c.most ≡ most → unit ≡ pos c.unit → WhereTold (CheckStops c stop) (told start) (told next)
 checking_stops told opened steady faults files most unit all n start now next d stop h short stops c is most_is unit_is =
     goes_then (HasDone c (take n all) (get_or all n d ∷ drop (n + 1) all)) (StopsChecking c (pair_of (get_or all n d)) (get_or all n d).at stop) (CheckStops c stop)
     (λ a b e r s. file_stops c (take n all) (drop (n + 1) all) (get_or all n d) stop a b e (at_place c all n d (h.pairs ∙ sym (ap (enumerate_from 0) is)) short) r s) (told start) (told now) (told next)
-    (subst (λ (l : List Opened). Goes (HasDone c (take n all) l) (told start) (told now)) (drop_more all n d short) (h.told_so c is most_is unit_is)) (stops c most_is unit_is)
+    (subst (λ (l : List Opened). WhereTold (HasDone c (take n all) l) (told start) (told now)) (drop_more all n d short) (h.told_so c is most_is unit_is)) (stops c most_is unit_is)
 
-pub opening_stopped : (c : Checks) (stop : Stop) (start now : Option Told) → IsNoBadLine stop → Goes (StopsOpening c stop) start now → Goes (CheckStops c stop) start now
+pub opening_stopped : (c : Checks) (stop : Stop) (start now : Option Told) → IsNoBadLine stop → WhereTold (StopsOpening c stop) start now → WhereTold (CheckStops c stop) start now
 opening_stopped c stop start now never h = goes_weaker (StopsOpening c stop) (CheckStops c stop) (λ a b r. opening_stops c stop a b never r) start now h
 
-pub goes_nowhere : (c : Checks) (start : Option Told) → Goes (CheckStops c NoMemory) start start
+pub goes_nowhere : (c : Checks) (start : Option Told) → WhereTold (CheckStops c NoMemory) start start
 goes_nowhere c start = goes_same (CheckStops c NoMemory) (nothing_begun c) start
 
 -- the outcome of a step behind others

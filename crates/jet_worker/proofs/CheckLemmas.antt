@@ -2,15 +2,15 @@
 use Rattle.std.proofs.Common.{◌≡◌, ℕ, List, [], ◌++◌, map, length, Option, Result, Ok, Err, refl, sym, ap, ◌∙◌, inl, inr, append-nil, append_assoc}
 use Rattle.std.specs.Prelude.{IfErr}
 use Rattle.jet_lines.specs.Lines.{lines_of}
-use Rattle.jet_file.specs.Outside.{Told, Entry, Goes, Wrote, rest_of}
+use Rattle.jet_file.specs.Outside.{Told, CallMade, WhereTold, Wrote, rest_of}
 use Rattle.jet_file.specs.Writing.{HasWritten}
 use Rattle.jet_file.specs.declared.outside.Out.TheVariants as out
 use Rattle.jet_flow.specs.DataFiles.{DataFile}
 use Rattle.jet_worker.specs.CheckText.{Checks, check_line, first_bad}
 use Rattle.jet_worker.specs.Feeding.{StopsWriting, WritesText}
-use Rattle.jet_worker.specs.FileChecks.{ChecksFile, HasChecked, HasTallied, IsBadIn, StopsChecking, StopsReading}
+use Rattle.jet_worker.specs.inner.FileChecks.{ChecksFile, HasChecked, HasTallied, IsBadIn, StopsChecking, StopsReading}
 use Rattle.jet_worker.specs.Stopping.{IsNoBadLine}
-use Rattle.jet_worker.specs.Tallying.{Tallied}
+use Rattle.jet_worker.specs.inner.Tallying.{Tallied}
 use Rattle.jet_worker.specs.declared.stop.Stop.{Stop}
 use Rattle.jet_worker.specs.declared.stop.Stop.TheVariants.{BadLine, Outside, NoMemory}
 use Rattle.jet_worker.specs.declared.tally.Tally.{Tally}
@@ -19,7 +19,7 @@ use Rattle.jet_worker.proofs.GoesLemmas.{goes_then, goes_weaker}
 use Rattle.jet_worker.proofs.TallyLemmas.{none_is}
 
 -- the reading stopped, and nothing was written
-pub goes_unread : (c : Checks) (p : ℕ × DataFile) (at : ℕ) (stop : Stop) (start now : Option Told) → Goes (StopsReading c p at stop) start now → Goes (StopsChecking c p at stop) start now
+pub goes_unread : (c : Checks) (p : ℕ × DataFile) (at : ℕ) (stop : Stop) (start now : Option Told) → WhereTold (StopsReading c p at stop) start now → WhereTold (StopsChecking c p at stop) start now
 goes_unread c p at stop start now = goes_weaker (StopsReading c p at stop) (StopsChecking c p at stop) (λ a b h. record {
   front = [];
   told = h.told;
@@ -31,7 +31,7 @@ goes_unread c p at stop start now = goes_weaker (StopsReading c p at stop) (Stop
 }) start now
 
 -- no memory was found for the text
-pub goes_untold : (c : Checks) (p : ℕ × DataFile) (at count : ℕ) (tally : Tally) (start now : Option Told) → Goes (HasTallied c p at count tally) start now → Goes (StopsChecking c p at NoMemory) start now
+pub goes_untold : (c : Checks) (p : ℕ × DataFile) (at count : ℕ) (tally : Tally) (start now : Option Told) → WhereTold (HasTallied c p at count tally) start now → WhereTold (StopsChecking c p at NoMemory) start now
 goes_untold c p at count tally start now = goes_weaker (HasTallied c p at count tally) (StopsChecking c p at NoMemory) (λ a b h. record {
   front = [];
   told = λ name_of named. tt;
@@ -64,7 +64,7 @@ checked c p at count tally text a b d is h w = record {
   rows = w.written ∙ ap (λ (l : List ℕ). l ++ text) (ap (λ f. f out.Rows) h.run.written) ∙ ap (λ (l : List ℕ). a.written out.Rows ++ l) (is h.bytes h.tallied h.count_is);
   notes = w.others out.Notes notes_not_rows ∙ ap (λ f. f out.Notes) h.run.written;
   calls = h.run.calls ++ map (Wrote out.Rows) w.lengths;
-  trace = w.trace ∙ append-nil (b.trace ++ map (Wrote out.Rows) w.lengths) ∙ ap (λ (l : List Entry). l ++ map (Wrote out.Rows) w.lengths) h.run.trace
+  trace = w.trace ∙ append-nil (b.trace ++ map (Wrote out.Rows) w.lengths) ∙ ap (λ (l : List CallMade). l ++ map (Wrote out.Rows) w.lengths) h.run.trace
       ∙ append_assoc a.trace h.run.calls (map (Wrote out.Rows) w.lengths);
 }
 
@@ -90,7 +90,7 @@ unwritten c p at count tally text stop a b d is never h w = record {
 
 pub goes_text : (c : Checks) (p : ℕ × DataFile) (at count : ℕ) (tally : Tally) (text : List ℕ) (r : Result (Unit {0}) Stop) (start now next : Option Told)
     → ((bytes : List ℕ) → Tallied c p (lines_of bytes) tally → count ≡ length (lines_of bytes) → text ≡ check_line c p bytes) → IfErr r IsNoBadLine
-    → Goes (HasTallied c p at count tally) start now → Goes (WritesText out.Rows text r) now next → Goes (ChecksFile c p at r) start next
+    → WhereTold (HasTallied c p at count tally) start now → WhereTold (WritesText out.Rows text r) now next → WhereTold (ChecksFile c p at r) start next
 goes_text c p at count tally text (Ok done) start now next is never h w =
     goes_then (HasTallied c p at count tally) (HasWritten out.Rows text []) (HasChecked c p at) (λ a b d h w. checked c p at count tally text a b d is h w) start now next h w
 goes_text c p at count tally text (Err stop) start now next is never h w =

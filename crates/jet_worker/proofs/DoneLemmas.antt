@@ -6,13 +6,13 @@ use Rattle.std.proofs.lemmas.Grind.{flat_map-append}
 use Rattle.std.proofs.lemmas.List.{map-append}
 use Rattle.std.proofs.lemmas.List.Elements.{All-append, All-nil, All-cons, All-head, All-map, All-tail, All-weaker}
 use Rattle.jet_file.specs.Headline.{IsReadWhole}
-use Rattle.jet_file.specs.Outside.{Entry, Place, Told, rest_from, rest_of}
+use Rattle.jet_file.specs.Outside.{CallMade, Place, Told, rest_from, rest_of}
 use Rattle.jet_file.specs.declared.outside.Out.TheVariants as out
 use Rattle.jet_flow.specs.DataFiles.{DataFile, file_name}
 use Rattle.jet_worker.specs.CheckText.{Checks, check_line, first_bad}
 use Rattle.jet_worker.specs.Checked.{AreThere, IsChecked, IsGood, IsRead, check_lines, content_of, numbered}
-use Rattle.jet_worker.specs.FileChecks.{HasChecked}
-use Rattle.jet_worker.specs.Opening.{AreApart, AreNew, HasOpened, IsUnread, Opened, pair_of}
+use Rattle.jet_worker.specs.inner.FileChecks.{HasChecked}
+use Rattle.jet_worker.specs.inner.Opening.{AreApart, AreNew, HasOpened, IsUnread, Opened, pair_of}
 use Rattle.jet_worker.proofs.OpenLemmas.{all_left, all_right}
 
 -- ---- contents
@@ -54,7 +54,7 @@ pub record HasDone (c : Checks) (done later : List Opened) (old now : Told) : Ty
   pub content : now.content ≡ old.content
   pub rows : now.written out.Rows ≡ old.written out.Rows ++ check_lines c old (map pair_of done)
   pub notes : now.written out.Notes ≡ old.written out.Notes
-  pub calls : List Entry
+  pub calls : List CallMade
   pub trace : now.trace ≡ old.trace ++ calls
 
 pub none_done : (c : Checks) (all : List Opened) (a b : Told) → AreThere c a → HasOpened all a b → HasDone c [] all a b
@@ -121,7 +121,7 @@ one_done c done later o a b d apart h k =
           ∙ ap (λ (l : List ℕ). a.written out.Rows ++ l) (sym (lines_more c a done o));
       notes = k.notes ∙ h.notes;
       calls = h.calls ++ k.calls;
-      trace = k.trace ∙ ap (λ (t : List Entry). t ++ k.calls) h.trace ∙ append_assoc a.trace h.calls k.calls;
+      trace = k.trace ∙ ap (λ (t : List CallMade). t ++ k.calls) h.trace ∙ append_assoc a.trace h.calls k.calls;
     }
   where
     zero_and : (n : ℕ) → 0 + n ≡ n

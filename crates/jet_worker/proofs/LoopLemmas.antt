@@ -7,13 +7,13 @@ use Rattle.jet_lines.specs.LinesValue.{LinesValue}
 use Rattle.jet_lines.specs.declared.cut.Cut.TheVariants as cut
 use Rattle.jet_lines.specs.declared.fault.LineFault.{LineFault}
 use Rattle.jet_lines.specs.declared.fault.LineFault.TheVariants as fault
-use Rattle.jet_file.specs.Outside.{Told, Entry, Read, Goes, rest_of}
+use Rattle.jet_file.specs.Outside.{Told, CallMade, Read, WhereTold, rest_of}
 use Rattle.jet_flow.specs.DataFiles.{DataFile}
 use Rattle.jet_worker.specs.CheckText.{Checks}
 use Rattle.jet_worker.specs.Feeding.{PutsPiece, StopsAt, TakesPiece}
-use Rattle.jet_worker.specs.FileChecks.{HasTaken, HasTallied, IsBadIn, Progress, StopsReading}
+use Rattle.jet_worker.specs.inner.FileChecks.{HasTaken, HasTallied, IsBadIn, Progress, StopsReading}
 use Rattle.jet_worker.specs.Stopping.{IsNoBadLine, StopTold}
-use Rattle.jet_worker.specs.Tallying.{IsSmall, StopsAtLine, TakesLine, Tallied, next_fault}
+use Rattle.jet_worker.specs.inner.Tallying.{IsSmall, StopsAtLine, TakesLine, Tallied, next_fault}
 use Rattle.jet_worker.specs.declared.stop.Spot.{Spot}
 use Rattle.jet_worker.specs.declared.stop.Spot.TheVariants.{Part}
 use Rattle.jet_worker.specs.declared.stop.Stop.{Stop}
@@ -57,7 +57,7 @@ progress_starts c p at start lines tally is tallied =
       number = ap (λ (v : LinesValue). v.number) is;
       cut = λ more may. ap (λ (v : LinesValue). lines_of (v.rest ++ more)) (sym is);
       tallied = tallied;
-      told = subst (λ (b : Bool). Goes (HasTaken at [] b) start start) (sym ended) (goes_same (HasTaken at [] false) (taken_starts at) start);
+      told = subst (λ (b : Bool). WhereTold (HasTaken at [] b) start start) (sym ended) (goes_same (HasTaken at [] false) (taken_starts at) start);
     }
 
 -- one line more
@@ -77,7 +77,7 @@ progress_line c p at start now lines lines' tally tally' n line h next same take
           let may2 : MayCome lines.ended rest = λ e. may (ended ∙ e) in
           h.cut rest may2 ∙ ap (λ (l : List (List ℕ)). h.given ++ l) (next.3 rest may2) ∙ sym (append_assoc h.given (lines'.line ∷ []) (lines_of (lines'.rest ++ rest)));
       tallied = subst (λ (l : List ℕ). Tallied c p (h.given ++ l ∷ []) tally') same (takes c p h.given h.tallied number (subst (λ (k : ℕ). n ≤ k) h.most next.1));
-      told = subst (λ (b : Bool). Goes (HasTaken at h.bytes b) start now) (sym ended) h.told;
+      told = subst (λ (b : Bool). WhereTold (HasTaken at h.bytes b) start now) (sym ended) h.told;
     }
 
 -- ---- one piece more
@@ -95,7 +95,7 @@ takes at bytes piece before after a b d is h t =
       taken = t.taken ∙ ap (λ (k : ℕ). k + length t.piece) h.taken ∙ omega (arith, ap length same, length-append bytes piece);
       others = λ other differs. t.others other differs ∙ h.others other differs;
       calls = h.calls ++ Read at (length t.piece) ∷ [];
-      trace = t.trace ∙ ap (λ (l : List Entry). l ++ Read at (length t.piece) ∷ []) h.trace ∙ append_assoc a.trace h.calls (Read at (length t.piece) ∷ []);
+      trace = t.trace ∙ ap (λ (l : List CallMade). l ++ Read at (length t.piece) ∷ []) h.trace ∙ append_assoc a.trace h.calls (Read at (length t.piece) ∷ []);
     }
   where
     cancel : (xs ys zs : List ℕ) → xs ++ ys ≡ xs ++ zs → ys ≡ zs
@@ -107,7 +107,7 @@ false_is b f t = absurd (cc)
 
 progress_put : (c : Checks) (p : ℕ × DataFile) (at : ℕ) (start now next : Option Told) (lines lines' : LinesValue) (tally : Tally) (piece : List ℕ)
     → Progress c p at start now lines tally → lines.ended ≡ false → lines'.rest ≡ lines.rest ++ piece → lines'.most ≡ lines.most → lines'.number ≡ lines.number
-    → Goes (TakesPiece at lines lines') now next → Progress c p at start next lines' tally
+    → WhereTold (TakesPiece at lines lines') now next → Progress c p at start next lines' tally
 progress_put c p at start now next lines lines' tally piece h live rest most number told = record {
   bytes = h.bytes ++ piece;
   given = h.given;
@@ -122,14 +122,14 @@ progress_put c p at start now next lines lines' tally piece h live rest most num
 }
 
 progress_more : (c : Checks) (p : ℕ × DataFile) (at : ℕ) (start now next : Option Told) (lines lines' : LinesValue) (tally : Tally)
-    → Progress c p at start now lines tally → lines.ended ≡ false → PutsPiece lines lines' → Goes (TakesPiece at lines lines') now next → Progress c p at start next lines' tally
+    → Progress c p at start now lines tally → lines.ended ≡ false → PutsPiece lines lines' → WhereTold (TakesPiece at lines lines') now next → Progress c p at start next lines' tally
 progress_more c p at start now next lines lines' tally h live (inl (piece, some, small, is)) told =
     progress_put c p at start now next lines lines' tally piece h live (ap (λ (v : LinesValue). v.rest) is) (ap (λ (v : LinesValue). v.most) is) (ap (λ (v : LinesValue). v.number) is) told
 progress_more c p at start now next lines lines' tally h live (inr is) told =
     progress_put c p at start now next lines lines' tally [] h live (ap (λ (v : LinesValue). v.rest) is ∙ sym (append-nil lines.rest)) (ap (λ (v : LinesValue). v.most) is) (ap (λ (v : LinesValue). v.number) is) told
 
 pub progress_piece : (c : Checks) (p : ℕ × DataFile) (at : ℕ) (start now next : Option Told) (lines lines1 lines' : LinesValue) (tally : Tally)
-    → Progress c p at start now lines tally → NextIs lines cut.More lines1 → PutsPiece lines1 lines' → Goes (TakesPiece at lines1 lines') now next → Progress c p at start next lines' tally
+    → Progress c p at start now lines tally → NextIs lines cut.More lines1 → PutsPiece lines1 lines' → WhereTold (TakesPiece at lines1 lines') now next → Progress c p at start next lines' tally
 progress_piece c p at start now next lines lines1 lines' tally h more puts told =
     let same : lines1 ≡ lines = more.3 in
     progress_more c p at start now next lines1 lines' tally (subst (λ (v : LinesValue). Progress c p at start now v tally) (sym same) h) (ap (λ (v : LinesValue). v.ended) same ∙ more.0) puts told
@@ -215,7 +215,7 @@ module _ (c : Checks) (p : ℕ × DataFile) (at : ℕ) (start now : Option Told)
   bad_cut n part (fault.Key f) lines' part_is k content more is may = absurd k
   bad_cut n part fault.KeyFull lines' part_is k content more is may = absurd k
 
-  pub stops_at_cut : (n part : ℕ) (f : LineFault) (lines' : LinesValue) (bad_part : part ≡ p.0) → NextIs lines (cut.Bad n f) lines' → Goes (StopsReading c p at (BadLine part n f)) start now
+  pub stops_at_cut : (n part : ℕ) (f : LineFault) (lines' : LinesValue) (bad_part : part ≡ p.0) → NextIs lines (cut.Bad n f) lines' → WhereTold (StopsReading c p at (BadLine part n f)) start now
   stops_at_cut n part f lines' part_is next =
       goes_weaker (HasTaken at h.bytes lines.ended) (StopsReading c p at (BadLine part n f))
       (λ a b r. stops c p at h.bytes lines.ended (BadLine part n f) a b b (bad_cut n part f lines' part_is next) r (here (Part p.0) (b.place at).name (BadLine part n f) b (λ name_of. tt))) start now h.told
@@ -235,7 +235,7 @@ module _ (c : Checks) (p : ℕ × DataFile) (at : ℕ) (start now : Option Told)
   line_told part n line NoMemory a s name_of = tt
 
   pub stops_at_line : (n part : ℕ) (line : List ℕ) (lines' : LinesValue) (stop : Stop) → part ≡ p.0 → NextIs lines (cut.Line n) lines' → line ≡ lines'.line → StopsAtLine part n line tally stop
-      → Goes (StopsReading c p at stop) start now
+      → WhereTold (StopsReading c p at stop) start now
   stops_at_line n part line lines' stop part_is next same s =
       goes_weaker (HasTaken at h.bytes lines.ended) (StopsReading c p at stop)
       (λ a b r. stops c p at h.bytes lines.ended stop a b b (bad_read n part lines' stop part_is next (subst (λ (l : List ℕ). StopsAtLine part n l tally stop) same s)) r
@@ -246,12 +246,12 @@ module _ (c : Checks) (p : ℕ × DataFile) (at : ℕ) (start now : Option Told)
   none_bad (Outside call spot) k content = tt
   none_bad NoMemory k content = tt
 
-  pub stops_at_read : (stop : Stop) (next : Option Told) → IsNoBadLine stop → Goes (λ a b. StopsAt (Part p.0) (a.place at).name stop a b) now next → Goes (StopsReading c p at stop) start next
+  pub stops_at_read : (stop : Stop) (next : Option Told) → IsNoBadLine stop → WhereTold (λ a b. StopsAt (Part p.0) (a.place at).name stop a b) now next → WhereTold (StopsReading c p at stop) start next
   stops_at_read stop next never told =
       goes_then (HasTaken at h.bytes lines.ended) (λ a b. StopsAt (Part p.0) (a.place at).name stop a b) (StopsReading c p at stop)
       (λ a b d r s. stops c p at h.bytes lines.ended stop a b d (λ content more is may. none_bad stop never content) r s) start now next h.told told
 
-  pub tallied_at_end : (count : ℕ) (lines' : LinesValue) → NextIs lines cut.End lines' → count ≡ lines.number → Goes (HasTallied c p at count tally) start now
+  pub tallied_at_end : (count : ℕ) (lines' : LinesValue) → NextIs lines cut.End lines' → count ≡ lines.number → WhereTold (HasTallied c p at count tally) start now
   tallied_at_end count lines' end count_is =
       let none : (more : List ℕ) → MayCome lines.ended more → more ≡ [] = λ more may. may end.0 in
       let all : lines_of h.bytes ≡ h.given =

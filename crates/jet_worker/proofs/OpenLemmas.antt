@@ -4,12 +4,12 @@ use Rattle.std.specs.Prelude.{IsSome, MatchResult, Any, option_map, slice_get}
 use Rattle.std.specs.List.{enumerate_from}
 use Rattle.std.proofs.lemmas.List.{get_or_default, get_or-map, length-map, map-append}
 use Rattle.std.proofs.lemmas.List.Elements.{All-append, All-nil, All-cons, All-head, All-tail, All-weaker}
-use Rattle.jet_file.specs.Outside.{AddsNumber, Entry, Goes, LacksFile, Opened as OpenedEntry, OpensFile, Told}
+use Rattle.jet_file.specs.Outside.{AddsNumber, CallMade, WhereTold, LacksFile, Opened as OpenedEntry, OpensFile, Told}
 use Rattle.jet_flow.specs.DataFiles.{DataFile, SideFile, file_name}
 use Rattle.jet_worker.specs.CheckText.{Checks}
 use Rattle.jet_worker.specs.Checked.{LacksSome, name_in}
 use Rattle.jet_worker.specs.Feeding.{StopsAt}
-use Rattle.jet_worker.specs.Opening.{AreApart, AreNew, HasOpened, IsUnread, Opened, StopsOpening, file_in, pair_of}
+use Rattle.jet_worker.specs.inner.Opening.{AreApart, AreNew, HasOpened, IsUnread, Opened, StopsOpening, file_in, pair_of}
 use Rattle.jet_worker.specs.Stopping.{CauseOfStop, OpenOutcome, StopTold}
 use Rattle.jet_worker.specs.declared.files.DataFile.{DataFile as RustFile}
 use Rattle.jet_worker.specs.declared.stop.Spot.TheVariants.{Part}
@@ -22,7 +22,7 @@ use Rattle.jet_worker.proofs.GoesLemmas.{goes_same, goes_then}
 pub record SoFar {S : Type 0} (told : S → Option Told) (opened : S → ℕ → Bool) (steady : S → Bool) (faults : S → ℕ) (files : List DataFile) (n : ℕ) (all : List Opened) (start now : S) : Type 0 where
   pub pairs : map pair_of all ≡ take n (enumerate_from 0 files)
   pub numbers : AreNew (opened start) (opened now) all
-  pub told_so : Goes (HasOpened all) (told start) (told now)
+  pub told_so : WhereTold (HasOpened all) (told start) (told now)
   pub steady_same : steady now ≡ steady start
   pub faults_same : faults now ≡ faults start
 
@@ -98,7 +98,7 @@ opens_more all o a b c others h k = record {
   content = k.content ∙ h.content;
   written = k.written ∙ h.written;
   calls = h.calls ++ OpenedEntry (file_name o.file) o.at ∷ [];
-  trace = k.trace ∙ ap (λ (t : List Entry). t ++ OpenedEntry (file_name o.file) o.at ∷ []) h.trace ∙ append_assoc a.trace h.calls (OpenedEntry (file_name o.file) o.at ∷ []);
+  trace = k.trace ∙ ap (λ (t : List CallMade). t ++ OpenedEntry (file_name o.file) o.at ∷ []) h.trace ∙ append_assoc a.trace h.calls (OpenedEntry (file_name o.file) o.at ∷ []);
 }
 
 -- ---- the files of the program
@@ -129,7 +129,7 @@ place_of m (suc n) (g ∷ files) f d short is =
 
 pub file_more : {S : Type 0} (told : S → Option Told) (opened : S → ℕ → Bool) (steady : S → Bool) (faults : S → ℕ) (files : List DataFile) (n : ℕ) (all : List Opened) (start now next : S) (o : Opened) (d : DataFile)
     → SoFar told opened steady faults files n all start now → n < length files → o.part ≡ n → o.file ≡ get_or files n d
-    → AddsNumber o.at (opened now) (opened next) → Goes (OpensFile (file_name o.file) o.at) (told now) (told next) → steady next ≡ steady now → faults next ≡ faults now
+    → AddsNumber o.at (opened now) (opened next) → WhereTold (OpensFile (file_name o.file) o.at) (told now) (told next) → steady next ≡ steady now → faults next ≡ faults now
     → SoFar told opened steady faults files (n + 1) (all ++ o ∷ []) start next
 file_more told opened steady faults files n all start now next o d h short part is adds opens same faults_same =
     let others : All (λ (x : Opened). o.at ≢ x.at) all =
@@ -160,7 +160,7 @@ get_is (g ∷ files) (suc n) f d short is = get_is files n f d (omega (arith, sh
 
 -- a file could not be opened
 pub stops_at_file : (c : Checks) (files : List DataFile) (n part : ℕ) (f d : DataFile) (all : List Opened) (stop : Stop) (start now next : Option Told) → c.files ≡ files → n < length files → part ≡ n → f ≡ get_or files n d
-    → Goes (HasOpened all) start now → Goes (StopsAt (Part part) (file_name f) stop) now next → Goes (StopsOpening c stop) start next
+    → WhereTold (HasOpened all) start now → WhereTold (StopsAt (Part part) (file_name f) stop) now next → WhereTold (StopsOpening c stop) start next
 stops_at_file c files n part f d all stop start now next same short part_is is opened stopped =
     let at : slice_get c.files part ≡ Some f = ap (λ (l : List DataFile). slice_get l part) same ∙ ap (slice_get files) part_is ∙ get_is files n f d short is in
     goes_then (HasOpened all) (StopsAt (Part part) (file_name f) stop) (StopsOpening c stop) (λ a b e h s. record {
@@ -171,7 +171,7 @@ stops_at_file c files n part f d all stop start now next same short part_is is o
 
 -- no memory was found to keep what was opened
 pub stops_at_keep : (c : Checks) (f : List ℕ) (at : ℕ) (all : List Opened) (stop : Stop) (start now next : Option Told) → stop ≡ NoMemory
-    → Goes (HasOpened all) start now → Goes (OpensFile f at) now next → Goes (StopsOpening c stop) start next
+    → WhereTold (HasOpened all) start now → WhereTold (OpensFile f at) now next → WhereTold (StopsOpening c stop) start next
 stops_at_keep c f at all stop start now next is opened opens =
     goes_then (HasOpened all) (OpensFile f at) (StopsOpening c stop) (λ a b e h s. record {
       told = subst (λ (x : Stop). StopTold (name_in c) x a e) (sym is) tt;
@@ -180,7 +180,7 @@ stops_at_keep c f at all stop start now next is opened opens =
     }) start now next opened opens
 
 -- the file that could not be opened is not there
-pub lacks_file : (files : List DataFile) (n : ℕ) (f d : DataFile) (all : List Opened) (start now : Option Told) → n < length files → f ≡ get_or files n d → Goes (HasOpened all) start now
+pub lacks_file : (files : List DataFile) (n : ℕ) (f d : DataFile) (all : List Opened) (start now : Option Told) → n < length files → f ≡ get_or files n d → WhereTold (HasOpened all) start now
     → LacksFile (file_name f) now → LacksSome files start
 lacks_file files n f d all None now short is opened lacks = tt
 lacks_file files n f d all (Some a) None short is opened lacks = absurd opened

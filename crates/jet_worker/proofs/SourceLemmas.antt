@@ -18,7 +18,7 @@ use Rattle.jet_lines.specs.declared.fault.LineFault.{LineFault}
 use Rattle.jet_lines.proofs.EntryLemmas.{event_place}
 use Rattle.jet_lines.specs.declared.fault.LineFault.{LineFault}
 use Rattle.jet_worker.specs.CheckText.{behind_count}
-use Rattle.jet_worker.specs.Tallying.{CountsEntry, CountsEvent, RefusesSourceLine, TakesSourceLine, is_below}
+use Rattle.jet_worker.specs.inner.Tallying.{CountsEntry, CountsEvent, RefusesSourceLine, TakesSourceLine, is_below}
 use Rattle.jet_worker.specs.declared.source_tally.SourceTally.{SourceTally}
 use Rattle.jet_worker.proofs.CountLemmas.{count_first, count_last}
 use Rattle.jet_worker.proofs.FileLemmas.{good_more, numbered_fits}

@@ -9,8 +9,8 @@ use Rattle.jet_file.specs.declared.outside.Out.TheVariants as out
 use Rattle.jet_flow.specs.DataFiles.{DataFile, file_name}
 use Rattle.jet_worker.specs.CheckText.{Checks, check_line, first_bad}
 use Rattle.jet_worker.specs.Checked.{CheckStops, IsBadLine, IsBegun, IsGood, check_lines, content_of, name_in, numbered}
-use Rattle.jet_worker.specs.FileChecks.{IsFrontOf, StopsChecking}
-use Rattle.jet_worker.specs.Opening.{IsUnread, Opened, StopsOpening, pair_of}
+use Rattle.jet_worker.specs.inner.FileChecks.{IsFrontOf, StopsChecking}
+use Rattle.jet_worker.specs.inner.Opening.{IsUnread, Opened, StopsOpening, pair_of}
 use Rattle.jet_worker.specs.Stopping.{IsNoBadLine, StopTold}
 use Rattle.jet_worker.specs.declared.stop.Stop.{Stop}
 use Rattle.jet_worker.specs.declared.stop.Stop.TheVariants.{BadLine, Outside, NoMemory}

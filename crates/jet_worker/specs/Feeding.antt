@@ -1,6 +1,6 @@
 -- What the steps of a run do on the outside.
 use Rattle.std.specs.Prelude.{◌≡◌, ◌≢◌, ℕ, ◌+◌, ◌<◌, ◌≤◌, Bool, true, List, [], ◌∷◌, ◌++◌, length, map, sum, Option, Some, Result, Ok, Err, ◌⊎◌}
-use Rattle.jet_file.specs.Outside.{Told, Entry, Tried, Reading, Wrote, Read, OpensFile, ReadsFile, AddsNumber, rest_of}
+use Rattle.jet_file.specs.Outside.{Told, CallMade, Tried, Reading, Wrote, Read, OpensFile, ReadsFile, AddsNumber, rest_of}
 use Rattle.jet_file.specs.Writing.{HasWritten}
 use Rattle.jet_file.specs.declared.outside.Out.{Out}
 use Rattle.jet_file.specs.declared.outside.Out.TheVariants.{Rows, Notes}
@@ -20,7 +20,7 @@ pub record StopsAt (spot : Spot) (name : List ℕ) (stop : Stop) (old new : Told
 
 -- a step of one call stopped: that call came alone where it failed, and all else is as it was
 pub record FailsAt (call : Call) (spot : Spot) (tried : Tried) (stop : Stop) (old new : Told) : Type 0 where
-  pub last : List Entry
+  pub last : List CallMade
   pub is : LastOf call spot tried stop last
   pub same : new ≡ record old { trace = old.trace ++ last }
 

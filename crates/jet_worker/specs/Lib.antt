@@ -1,8 +1,5 @@
 pub mod CheckText
 pub mod Checked
 pub mod Feeding
-pub mod FileChecks
-pub mod Opening
-pub mod Stopped
 pub mod Stopping
-pub mod Tallying
+pub mod inner

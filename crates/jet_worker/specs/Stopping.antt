@@ -1,7 +1,7 @@
 -- What a stop says of the outside.
 use Rattle.std.specs.Prelude.{◌≡◌, ℕ, ◌≤◌, Bool, true, ⊤, List, [], ◌∷◌, ◌++◌, Option, Some, Result, MatchResult, IfErr}
 use Rattle.jet_file.specs.Causes.{Rose}
-use Rattle.jet_file.specs.Outside.{Told, Entry, Missed, Tried, Opening, Reading, Writing}
+use Rattle.jet_file.specs.Outside.{Told, CallMade, Missed, Tried, Opening, Reading, Writing}
 use Rattle.jet_file.specs.declared.outside.Out.TheVariants as out
 use Rattle.jet_worker.specs.declared.stop.Call.{Call}
 use Rattle.jet_worker.specs.declared.stop.Call.TheVariants.{Open, Read, Write}
@@ -20,7 +20,7 @@ IsCallOf name_of told call spot tried = ⊥
 
 -- the last call of all failed, and it is the one that is named
 pub record EndsFailed (name_of : Spot → Option (List ℕ)) (call : Call) (spot : Spot) (old new : Told) : Type 0 where
-  pub before : List Entry
+  pub before : List CallMade
   pub tried : Tried
   pub trace : new.trace ≡ old.trace ++ before ++ Missed tried ∷ []
   pub is : IsCallOf name_of new call spot tried
@@ -32,7 +32,7 @@ StopTold name_of (Outside call spot) old new = EndsFailed name_of call spot old 
 StopTold name_of NoMemory old new = ⊤
 
 -- the stop names this call at this place, whose entry comes last; or memory was wanted, and nothing comes
-abbrev pub LastOf : Call → Spot → Tried → Stop → List Entry → Type 0
+abbrev pub LastOf : Call → Spot → Tried → Stop → List CallMade → Type 0
 LastOf call spot tried (BadLine part line why) last = ⊥
 LastOf call spot tried (Outside failed at) last = (failed ≡ call) × (at ≡ spot) × (last ≡ Missed tried ∷ [])
 LastOf call spot tried NoMemory last = last ≡ []

@@ -1,9 +1,9 @@
 // The steps of a run on the outside: opening, reading a piece, writing a text. Each names the call that fails.
 ghost use Rattle.std.specs.Prelude.{◌≡◌, ◌≤◌, ◌<◌, length, IsTrue, OnOk, IfOk, false, true, ◌++◌, IfErr};
-ghost use Rattle.jet_file.specs.Outside.{Goes, LacksFile, Opening, Reading};
+ghost use Rattle.jet_file.specs.Outside.{WhereTold, LacksFile, Opening, Reading};
 ghost use Rattle.jet_worker.specs.Feeding.{AddsData, FailsAt, FailsPiece, Flushes, OpensData, PutsPiece, ReadsBytes, ReadsPiece, WritesText};
 ghost use Rattle.jet_worker.specs.Stopping.{IsForOutside, IsNoBadLine, IsOfCall, OpenOutcome, Outcome};
-ghost use Rattle.jet_worker.specs.Stopped.{stop_of, spot_of};
+ghost use Rattle.jet_worker.specs.inner.Stopped.{stop_of, spot_of};
 
 use crate::{Call, Spot, Stop};
 use jet_file::{FileNo, Out, OutFault, Outside, write_all};
@@ -11,12 +11,12 @@ use jet_lines::Lines;
 
 /// Opens the file of this name, which is read for `spot`.
 pub fn open_data<O: Outside>(out: &mut O, spot: Spot, name: &[u8]) -> Result<FileNo, Stop>
-    ensures told { Goes (OpensData spot name.now result) (O.told out.old) (O.told out.new) }
+    ensures told { WhereTold (OpensData spot name.now result) (O.told out.old) (O.told out.new) }
     ensures opened { AddsData (O.opened out.old) (O.opened out.new) result }
     ensures outcome { OpenOutcome O.steady O.faults out.old out.new result }
     ensures works { O.steady out.old ≡ true → IfErr result (λ stop. IsForOutside stop → LacksFile name.now (O.told out.old)) }
     ensures call { IfErr result (IsOfCall Call.Open spot) }
-    ensures alone { IfErr result (λ stop. Goes (FailsAt Call.Open spot (Opening name.now) stop) (O.told out.old) (O.told out.new)) }
+    ensures alone { IfErr result (λ stop. WhereTold (FailsAt Call.Open spot (Opening name.now) stop) (O.told out.old) (O.told out.new)) }
     ensures no_bad_line { IfErr result IsNoBadLine }
 {
     match out.open_file(name) {
@@ -34,11 +34,11 @@ pub fn read_bytes<O: Outside>(
 ) -> Result<usize, Stop>
     requires opened { IsTrue (O.opened out.old file) }
     requires room { 0 < length buf.old }
-    ensures told { Goes (ReadsBytes spot file buf.new result) (O.told out.old) (O.told out.new) }
+    ensures told { WhereTold (ReadsBytes spot file buf.new result) (O.told out.old) (O.told out.new) }
     ensures bound { IfOk result (λ n. n ≤ length buf.new) }
     ensures outcome { Outcome O.opened O.steady O.faults out.old out.new result }
     ensures call { IfErr result (IsOfCall Call.Read spot) }
-    ensures alone { IfErr result (λ stop. Goes (FailsAt Call.Read spot (Reading file) stop) (O.told out.old) (O.told out.new)) }
+    ensures alone { IfErr result (λ stop. WhereTold (FailsAt Call.Read spot (Reading file) stop) (O.told out.old) (O.told out.new)) }
     ensures no_bad_line { IfErr result IsNoBadLine }
 {
     match out.read(file, buf) {
@@ -59,9 +59,9 @@ pub fn read_piece<O: Outside>(
 ) -> Result<(), Stop>
     requires opened { IsTrue (O.opened out.old file) }
     requires open { lines.old.ended ≡ false }
-    ensures told { Goes (ReadsPiece spot file lines.old lines.new result) (O.told out.old) (O.told out.new) }
+    ensures told { WhereTold (ReadsPiece spot file lines.old lines.new result) (O.told out.old) (O.told out.new) }
     ensures lines { OnOk result (PutsPiece lines.old lines.new) }
-    ensures alone { IfErr result (λ stop. Goes (FailsPiece spot file stop) (O.told out.old) (O.told out.new)) }
+    ensures alone { IfErr result (λ stop. WhereTold (FailsPiece spot file stop) (O.told out.old) (O.told out.new)) }
     ensures kept { IfErr result (λ stop. lines.new ≡ record lines.old { held = lines.new.held }) }
     ensures outcome { Outcome O.opened O.steady O.faults out.old out.new result }
     ensures no_bad_line { IfErr result IsNoBadLine }
@@ -79,7 +79,7 @@ pub fn read_piece<O: Outside>(
 
 /// Appends a text to an output.
 pub fn write_text<O: Outside>(out: &mut O, to: Out, text: &[u8]) -> Result<(), Stop>
-    ensures told { Goes (WritesText to text.now result) (O.told out.old) (O.told out.new) }
+    ensures told { WhereTold (WritesText to text.now result) (O.told out.old) (O.told out.new) }
     ensures outcome { Outcome O.opened O.steady O.faults out.old out.new result }
     ensures no_bad_line { IfErr result IsNoBadLine }
 {
@@ -91,7 +91,7 @@ pub fn write_text<O: Outside>(out: &mut O, to: Out, text: &[u8]) -> Result<(), S
 
 /// Appends late lines to the notes and then rows to the rows.
 pub fn write_texts<O: Outside>(out: &mut O, rows: &[u8], notes: &[u8]) -> Result<(), Stop>
-    ensures told { Goes (Flushes rows.now notes.now result) (O.told out.old) (O.told out.new) }
+    ensures told { WhereTold (Flushes rows.now notes.now result) (O.told out.old) (O.told out.new) }
     ensures outcome { Outcome O.opened O.steady O.faults out.old out.new result }
     ensures no_bad_line { IfErr result IsNoBadLine }
 {

@@ -1,7 +1,7 @@
 // The files that a job reads, by their numbers.
 ghost use Rattle.std.specs.Prelude.{◌≡◌, ◌++◌, map, flat_map, OnOk, IfOk};
 ghost use Rattle.jet_flow.specs.DataFiles.{SourceFile, data_files, file_name, sides_of, sources_of};
-ghost use Rattle.jet_worker.specs.Opening.{file_in};
+ghost use Rattle.jet_worker.specs.inner.Opening.{file_in};
 
 use jet_plan::{Dag, Kind, Text, Vertex};
 use std::alloc::{AllocError, Global};

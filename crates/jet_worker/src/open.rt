@@ -1,9 +1,9 @@
 // The opening of all files that a job reads.
 ghost use Rattle.std.specs.Prelude.{◌≡◌, ◌≤◌, ◌++◌, ◌∷◌, [], true, length, map, IfErr, IfOk, OnOk};
-ghost use Rattle.jet_file.specs.Outside.{Goes};
+ghost use Rattle.jet_file.specs.Outside.{WhereTold};
 ghost use Rattle.jet_worker.specs.CheckText.{Checks};
 ghost use Rattle.jet_worker.specs.Checked.{LacksSome, numbered};
-ghost use Rattle.jet_worker.specs.Opening.{AreNew, HasOpened, StopsOpening, file_in, opened_in, pair_of};
+ghost use Rattle.jet_worker.specs.inner.Opening.{AreNew, HasOpened, StopsOpening, file_in, opened_in, pair_of};
 ghost use Rattle.jet_worker.specs.Stopping.{IsForOutside, IsNoBadLine, OpenOutcome};
 
 use crate::feed::open_data;
@@ -31,8 +31,8 @@ pub(crate) fn open_all<'a, O: Outside>(
     requires { length files.now ≤ 256 }
     ensures pairs { IfOk result (λ opened. (c : Checks) → c.files ≡ map file_in files.now → map pair_of (map opened_in opened.items) ≡ numbered c) }
     ensures numbers { IfOk result (λ opened. AreNew (O.opened out.old) (O.opened out.new) (map opened_in opened.items)) }
-    ensures told { IfOk result (λ opened. Goes (HasOpened (map opened_in opened.items)) (O.told out.old) (O.told out.new)) }
-    ensures stop { IfErr result (λ stop. (c : Checks) → c.files ≡ map file_in files.now → Goes (StopsOpening c stop) (O.told out.old) (O.told out.new)) }
+    ensures told { IfOk result (λ opened. WhereTold (HasOpened (map opened_in opened.items)) (O.told out.old) (O.told out.new)) }
+    ensures stop { IfErr result (λ stop. (c : Checks) → c.files ≡ map file_in files.now → WhereTold (StopsOpening c stop) (O.told out.old) (O.told out.new)) }
     ensures no_bad_line { IfErr result IsNoBadLine }
     ensures works { O.steady out.old ≡ true → IfErr result (λ stop. IsForOutside stop → LacksSome (map file_in files.now) (O.told out.old)) }
     ensures outcome { OpenOutcome O.steady O.faults out.old out.new result }

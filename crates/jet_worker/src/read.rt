@@ -1,12 +1,12 @@
 // The reading of one file to its end.
 ghost use Rattle.std.specs.Prelude.{◌≡◌, ◌≤◌, ◌-◌, ℕ, [], pos, IsTrue, OnOk, IfErr};
-ghost use Rattle.jet_file.specs.Outside.{Goes};
+ghost use Rattle.jet_file.specs.Outside.{WhereTold};
 ghost use Rattle.jet_lines.specs.Files.{most_lines};
 ghost use Rattle.jet_flow.specs.DataFiles.{DataFile as JobFile};
 ghost use Rattle.jet_worker.specs.CheckText.{Checks};
-ghost use Rattle.jet_worker.specs.FileChecks.{TalliesFile};
+ghost use Rattle.jet_worker.specs.inner.FileChecks.{TalliesFile};
 ghost use Rattle.jet_worker.specs.Stopping.{Outcome};
-ghost use Rattle.jet_worker.specs.Tallying.{IsSmall, RefusesLine, StopsAtLine, TakesLine, Tallied};
+ghost use Rattle.jet_worker.specs.inner.Tallying.{IsSmall, RefusesLine, StopsAtLine, TakesLine, Tallied};
 
 use crate::feed::read_piece;
 use crate::tally::Tally;
@@ -30,7 +30,7 @@ pub(crate) fn tally_lines<O: Outside>(
     requires most { most ≤ most_lines }
     requires small { IsSmall 0 tally.old }
     ensures told { (c : Checks) (f : JobFile) → c.most ≡ most → Tallied c (part, f) [] tally.old
-        → Goes (TalliesFile c (part, f) file tally.new result) (O.told out.old) (O.told out.new) }
+        → WhereTold (TalliesFile c (part, f) file tally.new result) (O.told out.old) (O.told out.new) }
     ensures outcome { Outcome O.opened O.steady O.faults out.old out.new result }
 {
     let mut lines = Lines::new(alloc, most);

@@ -1,7 +1,7 @@
 // The counting of a side file's lines.
 ghost use Rattle.std.specs.Prelude.{◌≡◌, ◌≤◌, ◌<◌, ◌^◌, ◌+◌, ◌∷◌, ◌++◌, ℕ, List, [], OnOk, IfErr, IfOk, decimal, codes, string_bytes};
 ghost use Rattle.jet_items.specs.LineText.{line_text};
-ghost use Rattle.jet_worker.specs.Tallying.{CountsRow, RefusesRow, RefusesSideLine, SideTallied, TakesSideLine, rows_at};
+ghost use Rattle.jet_worker.specs.inner.Tallying.{CountsRow, RefusesRow, RefusesSideLine, SideTallied, TakesSideLine, rows_at};
 
 use jet_items::{Key, Refused, Side};
 use jet_lines::{LineFault, read_side};

@@ -3,7 +3,7 @@ ghost use Rattle.std.specs.Prelude.{◌≡◌, ◌≤◌, ◌<◌, ◌^◌, ◌+
 ghost use Rattle.jet_items.specs.LineText.{line_text};
 ghost use Rattle.jet_items.specs.Ranges.{IsWithin, most_time};
 ghost use Rattle.jet_items.specs.Values.{EventValue};
-ghost use Rattle.jet_worker.specs.Tallying.{CountsEntry, CountsEvent, RefusesSourceLine, SourceTallied, TakesSourceLine};
+ghost use Rattle.jet_worker.specs.inner.Tallying.{CountsEntry, CountsEvent, RefusesSourceLine, SourceTallied, TakesSourceLine};
 
 use jet_items::{Event, Refused};
 use jet_lines::{Entry, LineFault, read_line};

@@ -1,5 +1,5 @@
 use Rattle.std.proofs.Common.{subst, OnOk, Result}
-use Rattle.jet_cli.specs.Ending.{Ends}
+use Rattle.jet_cli.specs.inner.Ending.{Ends}
 use Rattle.jet_worker.specs.declared.stop.Stop.{Stop}
 use Rattle.jet_cli.proofs.LineLemmas.{wrote_end, end_stops, on_ok_from}
 use Rattle.jet_cli.proofs.base.end_file.Goals as goal

@@ -1,7 +1,7 @@
 use Rattle.std.proofs.Common.{◌≡◌, ℕ, ◌<◌, Some, sym, subst, OnOk, All, Ok, Result}
 use Rattle.jet_items.specs.Values.{EventValue}
 use Rattle.jet_lines.specs.Readings.{event_line}
-use Rattle.jet_cli.specs.Progress.{TookLine}
+use Rattle.jet_cli.specs.inner.Progress.{TookLine}
 use Rattle.jet_worker.specs.declared.stop.Stop.{Stop}
 use Rattle.jet_lines.proofs.EntryLemmas.{event_place}
 use Rattle.jet_cli.proofs.LineLemmas.{wrote_event, write_stops, wrote_nothing, on_ok_from}

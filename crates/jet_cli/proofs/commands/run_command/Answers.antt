@@ -1,6 +1,6 @@
 use Rattle.std.proofs.Common.{sym, subst}
-use Rattle.jet_cli.specs.Ended.{status_of}
-use Rattle.jet_cli.specs.Meeting.{Meets}
+use Rattle.jet_cli.specs.inner.Ended.{status_of}
+use Rattle.jet_cli.specs.inner.Meeting.{Meets}
 use Rattle.jet_cli.specs.Words.{WindowOf, PlanOf, CheckOf}
 use Rattle.jet_cli.specs.WordsView.{command_in, job_read, window_in}
 use Rattle.jet_cli.specs.declared.status.Status.{Status}

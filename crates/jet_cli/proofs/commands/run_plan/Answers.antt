@@ -1,6 +1,6 @@
 use Rattle.std.proofs.Common.{◌≡◌, ◌∙◌, ◌++◌, ap, sym, subst, ℕ, Bool, List}
 use Rattle.std.proofs.lemmas.Result.{err_from_is_err_and}
-use Rattle.jet_file.specs.Outside.{Goes}
+use Rattle.jet_file.specs.Outside.{WhereTold}
 use Rattle.jet_plan.specs.PlanText.{plan_text}
 use Rattle.jet_cli.specs.Planned.{IsPlanned}
 use Rattle.jet_cli.specs.WordsView.{job_read}
@@ -18,7 +18,7 @@ returns-clause-done g c =
     let plan = c.in_ok-plan.plan in
     let is : c.deref.result.now ≡ plan_text plan.dag plan.settings =
     c.deref.ensures.value ∙ c.in_ok-print_plan.ensures.ok ∙ ap (λ (l : List ℕ). l ++ plan_text plan.dag plan.settings) c.new-text.ensures.items in
-    subst (λ (now : ℕ → Bool). Goes (IsPlanned (job_read c.args.words.now) (g.O.Outside.opened c.args.out.now) now) (g.O.Outside.told c.args.out.now) (g.O.Outside.told c.write_text.new.out))
+    subst (λ (now : ℕ → Bool). WhereTold (IsPlanned (job_read c.args.words.now) (g.O.Outside.opened c.args.out.now) now) (g.O.Outside.told c.args.out.now) (g.O.Outside.told c.write_text.new.out))
     (sym c.in_ok-write_text.ensures.outcome.opened_same)
     (goes_planned (job_read c.args.words.now) plan c.deref.result.now (g.O.Outside.opened c.args.out.now) (g.O.Outside.opened c.read_plan.new.out) (g.O.Outside.told c.args.out.now) (g.O.Outside.told c.read_plan.new.out)
     (g.O.Outside.told c.write_text.new.out) c.in_ok-plan.ensures.valid is c.in_ok-plan.ensures.plan c.in_ok-write_text.ensures.told)

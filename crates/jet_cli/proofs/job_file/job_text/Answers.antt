@@ -1,9 +1,9 @@
 use Rattle.std.proofs.Common.{sym, subst, refl, ℕ, Bool, Option}
-use Rattle.jet_file.specs.Outside.{Told, Goes, AddsNumber}
+use Rattle.jet_file.specs.Outside.{Told, WhereTold, AddsNumber}
 use Rattle.jet_worker.specs.Feeding.{StopsAt}
 use Rattle.jet_worker.specs.declared.stop.Spot.TheVariants.{Job}
 use Rattle.jet_cli.specs.JobFiles.{ReadsJobFile}
-use Rattle.jet_cli.specs.TextReading.{ReadsFront, StopsReading}
+use Rattle.jet_cli.specs.inner.TextReading.{ReadsFront, StopsReading}
 use Rattle.jet_cli.proofs.GoesLemmas.{if_err_weaker, if_ok_weaker}
 use Rattle.jet_cli.proofs.JobLemmas.{goes_job_file, goes_stops_after}
 use Rattle.jet_cli.proofs.job_file.job_text.Goals as goal
@@ -16,7 +16,7 @@ returns-clause-text g c =
     let before : ℕ → Bool = g.O.Outside.opened c.args.out.now in
     let now : ℕ → Bool = g.O.Outside.opened c.read_text.new.out in
     let adds : AddsNumber c.in_ok-file.file before now = subst (λ (n : ℕ → Bool). AddsNumber c.in_ok-file.file before n) (sym c.read_text.ensures.outcome.opened_same) c.in_ok-file.ensures.opened in
-    if_ok_weaker c.read_text.result (λ text. Goes (ReadsFront c.in_ok-file.file 1048577 text.items) mid new) (λ text. Goes (ReadsJobFile c.args.name.now text.items before now) old new)
+    if_ok_weaker c.read_text.result (λ text. WhereTold (ReadsFront c.in_ok-file.file 1048577 text.items) mid new) (λ text. WhereTold (ReadsJobFile c.args.name.now text.items before now) old new)
     (λ text h. goes_job_file c.args.name.now text.items c.in_ok-file.file 1048577 before now old mid new refl adds c.in_ok-file.ensures.told h) c.read_text.ensures.text
 
 pub returns-clause-stop : goal.returns-clause-stop
@@ -24,5 +24,5 @@ returns-clause-stop g c =
     let old : Option Told = g.O.Outside.told c.args.out.now in
     let mid : Option Told = g.O.Outside.told c.open_data.new.out in
     let new : Option Told = g.O.Outside.told c.read_text.new.out in
-    if_err_weaker c.read_text.result (λ stop. Goes (StopsReading Job c.in_ok-file.file stop) mid new) (λ stop. Goes (StopsAt Job c.args.name.now stop) old new)
+    if_err_weaker c.read_text.result (λ stop. WhereTold (StopsReading Job c.in_ok-file.file stop) mid new) (λ stop. WhereTold (StopsAt Job c.args.name.now stop) old new)
     (λ stop h. goes_stops_after Job c.args.name.now c.in_ok-file.file stop old mid new c.in_ok-file.ensures.told h) c.read_text.ensures.stop

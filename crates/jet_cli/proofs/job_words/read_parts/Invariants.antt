@@ -1,5 +1,5 @@
 use Rattle.std.proofs.Common.{◌≡◌, length}
-use Rattle.jet_cli.specs.PartsView.{parts_left, job_with}
+use Rattle.jet_cli.specs.inner.PartsView.{parts_left, job_with}
 use Rattle.jet_cli.proofs.job_words.read_parts.Given as goal
 
 abbrev pub invariant-loop-part : goal.invariant-loop-part

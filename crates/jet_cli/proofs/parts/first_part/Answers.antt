@@ -1,7 +1,7 @@
 use Rattle.std.specs.Prelude.{string_bytes}
 use Rattle.std.proofs.lemmas.List.{nil_from_length}
 use Rattle.std.proofs.lemmas.Option.{MatchOption-at_none}
-use Rattle.jet_cli.specs.PartsView.{part_in}
+use Rattle.jet_cli.specs.inner.PartsView.{part_in}
 use Rattle.jet_cli.proofs.PartLemmas.{last_alone, takes_next, takes_none}
 use Rattle.jet_cli.proofs.parts.first_part.Goals as goal
 

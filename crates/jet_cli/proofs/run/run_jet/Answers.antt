@@ -1,6 +1,6 @@
 use Rattle.std.proofs.Common.{◌≡◌, Option, Some, subst}
 use Rattle.std.specs.Prelude.{IsSomeAnd}
-use Rattle.jet_file.specs.Outside.{Goes}
+use Rattle.jet_file.specs.Outside.{WhereTold}
 use Rattle.jet_worker.specs.Stopping.{EndsFailed}
 use Rattle.jet_cli.specs.Commands.{Finishes, StaysQuiet, StaysQuietInTime, HasBadLine, names_of}
 use Rattle.jet_cli.specs.Refusals.{MayBeRefused}
@@ -17,16 +17,16 @@ same a b h = cc h
 
 pub returns-in-Some-clause-done : goal.returns-in-Some-clause-done
 returns-in-Some-clause-done g c = λ is. some_is _ (command_in c.in-Some.command)
-    (λ k. Goes (Finishes k (g.O.Outside.opened c.args.out.now) (g.O.Outside.opened c.run_command.new.out)) (g.O.Outside.told c.args.out.now) (g.O.Outside.told c.run_command.new.out))
+    (λ k. WhereTold (Finishes k (g.O.Outside.opened c.args.out.now) (g.O.Outside.opened c.run_command.new.out)) (g.O.Outside.told c.args.out.now) (g.O.Outside.told c.run_command.new.out))
     c.in-Some.ensures.command (c.run_command.ensures.done is)
 
 pub returns-in-Some-clause-quiet : goal.returns-in-Some-clause-quiet
 returns-in-Some-clause-quiet g c = λ is. some_is _ (command_in c.in-Some.command)
-    (λ k. Goes (StaysQuiet k) (g.O.Outside.told c.args.out.now) (g.O.Outside.told c.run_command.new.out)) c.in-Some.ensures.command (c.run_command.ensures.quiet is)
+    (λ k. WhereTold (StaysQuiet k) (g.O.Outside.told c.args.out.now) (g.O.Outside.told c.run_command.new.out)) c.in-Some.ensures.command (c.run_command.ensures.quiet is)
 
 pub returns-in-Some-clause-in_time : goal.returns-in-Some-clause-in_time
 returns-in-Some-clause-in_time g c = λ is. some_is _ (command_in c.in-Some.command)
-    (λ k. Goes (StaysQuietInTime k) (g.O.Outside.told c.args.out.now) (g.O.Outside.told c.run_command.new.out)) c.in-Some.ensures.command (c.run_command.ensures.in_time is)
+    (λ k. WhereTold (StaysQuietInTime k) (g.O.Outside.told c.args.out.now) (g.O.Outside.told c.run_command.new.out)) c.in-Some.ensures.command (c.run_command.ensures.in_time is)
 
 pub returns-in-Some-clause-refused : goal.returns-in-Some-clause-refused
 returns-in-Some-clause-refused g c = λ why is. some_is _ (command_in c.in-Some.command)
@@ -38,4 +38,4 @@ returns-in-Some-clause-bad_line g c = λ part line why is. some_is _ (command_in
 
 pub returns-in-Some-clause-fault_call : goal.returns-in-Some-clause-fault_call
 returns-in-Some-clause-fault_call g c = λ call spot is. some_is _ (command_in c.in-Some.command)
-    (λ k. Goes (λ a. EndsFailed (names_of k a.content) call spot a) (g.O.Outside.told c.args.out.now) (g.O.Outside.told c.run_command.new.out)) c.in-Some.ensures.command (c.run_command.ensures.fault_call call spot is)
+    (λ k. WhereTold (λ a. EndsFailed (names_of k a.content) call spot a) (g.O.Outside.told c.args.out.now) (g.O.Outside.told c.run_command.new.out)) c.in-Some.ensures.command (c.run_command.ensures.fault_call call spot is)

@@ -1,7 +1,7 @@
 use Rattle.std.proofs.Common.{◌≡◌, ◌+◌, ◌-◌, ◌≤◌, ◌<◌, ℕ, List, ◌∙◌, subst, arith, length, take, drop, length-drop}
 use Rattle.std.proofs.lemmas.List.{take_all}
 use Rattle.std.proofs.lemmas.Result.{err_from_is_err_and}
-use Rattle.jet_file.specs.Outside.{Goes, WritesBytes}
+use Rattle.jet_file.specs.Outside.{WhereTold, WritesBytes}
 use Rattle.jet_file.proofs.WriteLemmas.{goes_more, goes_stop}
 use Rattle.jet_file.proofs.write.write_all.Goals as goal
 
@@ -18,7 +18,7 @@ loop-done-preserved g c =
     record {
       within = within;
       wrote = goes_more c.args.to c.args.bytes.now c.loop-done.done c.in_ok-count.count _ (g.O.Outside.told c.loop-done.out) _ some fits within c.loop-done.invariant.wrote
-          (subst (λ (buf : List ℕ). Goes (WritesBytes c.args.to buf c.in_ok-count.count) (g.O.Outside.told c.loop-done.out) (g.O.Outside.told c.write.new.self)) same c.in_ok-count.ensures.told);
+          (subst (λ (buf : List ℕ). WhereTold (WritesBytes c.args.to buf c.in_ok-count.count) (g.O.Outside.told c.loop-done.out) (g.O.Outside.told c.write.new.self)) same c.in_ok-count.ensures.told);
       opened_same = c.in_ok-count.ensures.opened ∙ c.loop-done.invariant.opened_same;
       steady_same = c.in_ok-count.ensures.steady ∙ c.loop-done.invariant.steady_same;
       faults_same = c.in_ok-count.ensures.cause.cause ∙ c.loop-done.invariant.faults_same;

@@ -1,5 +1,5 @@
 use Rattle.jet_boxes.specs.Entry.{Given}
-use Rattle.jet_join.specs.Histories.{IsAmid}
+use Rattle.jet_join.specs.inner.Histories.{IsAmid}
 use Rattle.jet_join.proofs.tests.take.Given as goal
 
 abbrev pub invariant-loop : goal.invariant-loop

@@ -1,7 +1,7 @@
 use Rattle.std.proofs.Common.{◌<◌, length, refl, sym, subst}
 use Rattle.jet_tasklet.specs.declared.arrival.Arrival.{Arrival}
 use Rattle.jet_tasklet.specs.declared.step.Step.{Step}
-use Rattle.jet_tasklet.specs.Noting.{Notes}
+use Rattle.jet_tasklet.specs.inner.Noting.{Notes}
 use Rattle.jet_tasklet.proofs.Heard.{note_data, note_mark, note_done, data_unless}
 use Rattle.jet_tasklet.proofs.note.note.Goals as goal
 

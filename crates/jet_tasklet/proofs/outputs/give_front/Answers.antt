@@ -7,7 +7,7 @@ use Rattle.std.specs.List.{AllZip}
 use Rattle.jet_tasklet.specs.Turned.{OutputGoes}
 use Rattle.jet_tasklet.proofs.Lasting.{zip_refl, output_stays, outputs_trans, outputs_ready}
 use Rattle.jet_tasklet.proofs.Pushed.{count_ready}
-use Rattle.jet_tasklet.specs.Leaving.{Leaves, IsStopped}
+use Rattle.jet_tasklet.specs.inner.Leaving.{Leaves, IsStopped}
 use Rattle.jet_tasklet.proofs.Owing.{none_waits}
 use Rattle.jet_tasklet.proofs.Giving.{front_is, popped, leaves_part, leaves_front, blocked_unless}
 use Rattle.jet_tasklet.proofs.outputs.give_front.Goals as goal

@@ -2,7 +2,7 @@ use Rattle.std.proofs.Common.{◌≡◌, false, length}
 use Rattle.jet_tasklet.specs.Outputs.{outputs_view, SomeWaits, Says, sent_count}
 use Rattle.std.specs.List.{AllZip}
 use Rattle.jet_tasklet.specs.Turned.{OutputGoes}
-use Rattle.jet_tasklet.specs.Leaving.{Leaves}
+use Rattle.jet_tasklet.specs.inner.Leaving.{Leaves}
 use Rattle.jet_tasklet.proofs.outputs.give_out.Given as goal
 
 abbrev pub decreases-loop-pushed : goal.decreases-loop-pushed

@@ -1,5 +1,5 @@
 use Rattle.jet_ring.specs.Ring.{tx_ring, rx_ring}
-use Rattle.jet_tasklet.specs.Chain.{IsChain}
+use Rattle.jet_tasklet.specs.inner.Chain.{IsChain}
 use Rattle.jet_tasklet.proofs.tests.given.Given as goal
 
 abbrev pub invariant-rounds : goal.invariant-rounds

@@ -1,7 +1,7 @@
 use Rattle.std.proofs.Common.{List, set, sym, subst, arith}
 use Rattle.jet_ring.specs.Ring.{Ring, tx_ring, rx_ring}
 use Rattle.jet_tasklet.specs.declared.any.AnyTasklet.{AnyTasklet}
-use Rattle.jet_tasklet.specs.Chain.{IsChain}
+use Rattle.jet_tasklet.specs.inner.Chain.{IsChain}
 use Rattle.jet_tasklet.proofs.Chaining.{chain_put, each_get, last_gives}
 use Rattle.jet_tasklet.proofs.tests.meet_all.Goals as goal
 

@@ -1,6 +1,6 @@
 use Rattle.std.proofs.Common.{◌≡◌, ◌∙◌, ◌++◌, List, sym, ap, arith}
 use Rattle.jet_tasklet.specs.declared.any.AnyTasklet.{AnyTasklet}
-use Rattle.jet_tasklet.specs.Chain.{ends_of}
+use Rattle.jet_tasklet.specs.inner.Chain.{ends_of}
 use Rattle.jet_tasklet.proofs.Chaining.{chain_met}
 use Rattle.jet_tasklet.proofs.tests.meet_next.Goals as goal
 

@@ -2,7 +2,7 @@ use Rattle.std.proofs.Common.{List, refl, sym, ◌∙◌, ap, subst}
 use Rattle.std.specs.Prelude.{Some}
 use Rattle.jet_ring.specs.Ring.{tx_ring, rx_ring}
 use Rattle.jet_tasklet.specs.declared.any.AnyTasklet.{AnyTasklet}
-use Rattle.jet_tasklet.specs.Chain.{IsChain}
+use Rattle.jet_tasklet.specs.inner.Chain.{IsChain}
 use Rattle.jet_tasklet.proofs.tests.window_chain.Goals as goal
 
 pub returns : goal.returns

@@ -2,7 +2,7 @@ use Rattle.std.proofs.Common.{arith, ◌≡◌, false, ℤ, Option, refl, sym, s
 use Rattle.std.proofs.lemmas.Int.{ints}
 use Rattle.jet_items.specs.Grid.{IsFrameEnd}
 use Rattle.jet_window.specs.Taken.{is_due}
-use Rattle.jet_window.specs.NextEnds.{IsEndAbove}
+use Rattle.jet_window.specs.inner.NextEnds.{IsEndAbove}
 use Rattle.jet_window.proofs.Ending.{above_end, above_passed, due_false}
 use Rattle.jet_window.proofs.held.end_above.Goals as goal
 

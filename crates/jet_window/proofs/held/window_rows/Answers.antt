@@ -5,7 +5,7 @@ use Rattle.jet_items.specs.Values.{AccValue}
 use Rattle.jet_items.specs.Frames.{covers}
 use Rattle.jet_window.specs.Tables.{Place}
 use Rattle.jet_window.specs.FrameTables.{Table}
-use Rattle.jet_window.specs.WindowOf.{WindowOf, key_joined}
+use Rattle.jet_window.specs.inner.WindowOf.{WindowOf, key_joined}
 use Rattle.jet_window.proofs.Windowing.{map_push, covers_true, covers_low, covers_high, window_in, window_out}
 use Rattle.jet_window.proofs.held.window_rows.Goals as goal
 use Rattle.jet_window.proofs.held.window_rows.Goals.{else-start-at-via-then-start-at+else-at-end, else-start-at-via-else-start-at}

@@ -1,6 +1,6 @@
 use Rattle.std.proofs.Common.{map}
 use Rattle.std.specs.Map.Iter.{deref_pair}
-use Rattle.jet_window.specs.WindowOf.{WindowOf}
+use Rattle.jet_window.specs.inner.WindowOf.{WindowOf}
 use Rattle.jet_window.proofs.held.window_rows.Given as goal
 
 abbrev pub invariant-loop-at : goal.invariant-loop-at

@@ -2,11 +2,11 @@ use Rattle.std.proofs.Common.{rules, arith, ◌≡◌, ◌∙◌, ◌<◌, ℕ, 
 use Rattle.std.proofs.lemmas.List.{get_or-map, length-map}
 use Rattle.std.proofs.lemmas.List.Elements.{All-get_or}
 use Rattle.std.proofs.lemmas.Result.{err_from_is_err_and}
-use Rattle.jet_file.specs.Outside.{Goes}
+use Rattle.jet_file.specs.Outside.{WhereTold}
 use Rattle.jet_flow.specs.DataFiles.{SideFile}
 use Rattle.jet_worker.specs.CheckText.{Checks}
-use Rattle.jet_worker.specs.FileChecks.{HasChecked, StopsChecking}
-use Rattle.jet_worker.specs.Opening.{AreNew, HasLag, HasOpened, Opened, file_in, opened_in, pair_of}
+use Rattle.jet_worker.specs.inner.FileChecks.{HasChecked, StopsChecking}
+use Rattle.jet_worker.specs.inner.Opening.{AreNew, HasLag, HasOpened, Opened, file_in, opened_in, pair_of}
 use Rattle.jet_worker.specs.declared.open.OpenFile.{OpenFile}
 use Rattle.jet_worker.proofs.AllLemmas.{checking_ends, checking_more, checking_starts, checking_stops, lag_at, opening_stopped, outcome_then}
 use Rattle.jet_worker.proofs.check.check_all.Goals as goal
@@ -30,7 +30,7 @@ loop-file-init g c =
     checking_starts g.O.Outside.told g.O.Outside.opened g.O.Outside.steady g.O.Outside.faults (map file_in c.args.files.now) c.args.limits.most c.args.limits.unit (map opened_in c.deref-file-items.result.now)
     c.args.out.now c.open_all.new.out (λ check files. sym (ap (map pair_of) same) ∙ e.pairs check files)
     (subst (AreNew (g.O.Outside.opened c.args.out.now) (g.O.Outside.opened c.open_all.new.out)) same e.numbers)
-    (subst (λ (all : List Opened). Goes (HasOpened all) (g.O.Outside.told c.args.out.now) (g.O.Outside.told c.open_all.new.out)) same e.told)
+    (subst (λ (all : List Opened). WhereTold (HasOpened all) (g.O.Outside.told c.args.out.now) (g.O.Outside.told c.open_all.new.out)) same e.told)
     e.outcome.steady_same e.outcome.cause
 
 pub check_file-requires-clause-opened : goal.check_file-requires-clause-opened
@@ -52,7 +52,7 @@ returns-in_err-check_file-clause-stop g c =
     c.loop-file.file-index c.args.out.now c.loop-file.out c.check_file.new.out blank c.in_err-check_file.field-0.0 c.loop-file.invariant
     (short_in c.deref-file-items.result.now c.loop-file.file-index c.loop-file-test.true)
     (subst (λ (o : Opened). (check : Checks) → check.most ≡ c.args.limits.most → c.args.limits.unit ≡ pos check.unit
-    → Goes (StopsChecking check (pair_of o) o.at c.in_err-check_file.field-0.0) (g.O.Outside.told c.loop-file.out) (g.O.Outside.told c.check_file.new.out))
+    → WhereTold (StopsChecking check (pair_of o) o.at c.in_err-check_file.field-0.0) (g.O.Outside.told c.loop-file.out) (g.O.Outside.told c.check_file.new.out))
     (sym (get_or-map opened_in c.deref-file-items.result.now c.loop-file.file-index _ blank c.loop-file-test.true)) c.in_err-check_file.ensures.told))
 
 pub returns-in_err-check_file-clause-works : goal.returns-in_err-check_file-clause-works
@@ -72,7 +72,7 @@ loop-file-preserved g c =
     c.loop-file.file-index c.args.out.now c.loop-file.out c.check_file.new.out blank c.loop-file.invariant
     (short_in c.deref-file-items.result.now c.loop-file.file-index c.loop-file-test.true)
     (subst (λ (o : Opened). (check : Checks) → check.most ≡ c.args.limits.most → c.args.limits.unit ≡ pos check.unit
-    → Goes (HasChecked check (pair_of o) o.at) (g.O.Outside.told c.loop-file.out) (g.O.Outside.told c.check_file.new.out))
+    → WhereTold (HasChecked check (pair_of o) o.at) (g.O.Outside.told c.loop-file.out) (g.O.Outside.told c.check_file.new.out))
     (sym (get_or-map opened_in c.deref-file-items.result.now c.loop-file.file-index _ blank c.loop-file-test.true)) c.in_ok-check_file.ensures.told)
     c.in_ok-check_file.ensures.outcome.opened_same c.in_ok-check_file.ensures.outcome.steady_same c.in_ok-check_file.ensures.outcome.cause
 

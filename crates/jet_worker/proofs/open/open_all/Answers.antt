@@ -2,10 +2,10 @@ use Rattle.std.proofs.Common.{arith, ◌≡◌, ◌∙◌, ◌+◌, ◌++◌, �
 use Rattle.std.specs.List.{enumerate_from}
 use Rattle.std.proofs.lemmas.List.{length-map, map-append}
 use Rattle.std.proofs.lemmas.Result.{err_from_is_err_and}
-use Rattle.jet_file.specs.Outside.{Goes, LacksFile, OpensFile}
+use Rattle.jet_file.specs.Outside.{WhereTold, LacksFile, OpensFile}
 use Rattle.jet_flow.specs.DataFiles.{SideFile}
 use Rattle.jet_worker.specs.Feeding.{StopsAt}
-use Rattle.jet_worker.specs.Opening.{Opened, file_in, opened_in}
+use Rattle.jet_worker.specs.inner.Opening.{Opened, file_in, opened_in}
 use Rattle.jet_worker.specs.declared.stop.Spot.TheVariants.{Part}
 use Rattle.jet_worker.proofs.OpenLemmas.{SoFar, file_at, file_more, lacks_file, short_in, stops_at_file, whole}
 use Rattle.jet_worker.proofs.open.open_all.Goals as goal
@@ -16,7 +16,7 @@ returns-in_err-at-clause-stop g c =
     stops_at_file check (map file_in c.args.files.now) c.loop-number.number c.loop-number.number (file_in (get_or c.args.files.now c.loop-number.number _)) (SideFile []) (map opened_in c.loop-number.opened.items)
     c.in_err-at.field-0.0 (g.O.Outside.told c.args.out.now) (g.O.Outside.told c.loop-number.out) (g.O.Outside.told c.open_data.new.out) same (short_in c.args.files.now c.loop-number.number c.loop-number-test.true) refl
     (file_at c.args.files.now c.loop-number.number _ c.loop-number-test.true) c.loop-number.invariant.told_so
-    (subst (λ (name : List ℕ). Goes (StopsAt (Part c.loop-number.number) name c.in_err-at.field-0.0) (g.O.Outside.told c.loop-number.out) (g.O.Outside.told c.open_data.new.out)) c.name.ensures c.in_err-at.ensures.told))
+    (subst (λ (name : List ℕ). WhereTold (StopsAt (Part c.loop-number.number) name c.in_err-at.field-0.0) (g.O.Outside.told c.loop-number.out) (g.O.Outside.told c.open_data.new.out)) c.name.ensures c.in_err-at.ensures.told))
 
 pub returns-in_err-at-clause-works : goal.returns-in_err-at-clause-works
 returns-in_err-at-clause-works g c =
@@ -35,7 +35,7 @@ loop-number-preserved g c =
     (file_more g.O.Outside.told g.O.Outside.opened g.O.Outside.steady g.O.Outside.faults (map file_in c.args.files.now) c.loop-number.number (map opened_in c.loop-number.opened.items)
     c.args.out.now c.loop-number.out c.open_data.new.out o (SideFile []) c.loop-number.invariant (short_in c.args.files.now c.loop-number.number c.loop-number-test.true) refl
     (file_at c.args.files.now c.loop-number.number _ c.loop-number-test.true) c.in_ok-at.ensures.opened
-    (subst (λ (name : List ℕ). Goes (OpensFile name c.in_ok-at.at) (g.O.Outside.told c.loop-number.out) (g.O.Outside.told c.open_data.new.out)) c.name.ensures c.in_ok-at.ensures.told)
+    (subst (λ (name : List ℕ). WhereTold (OpensFile name c.in_ok-at.at) (g.O.Outside.told c.loop-number.out) (g.O.Outside.told c.open_data.new.out)) c.name.ensures c.in_ok-at.ensures.told)
     c.in_ok-at.ensures.outcome.steady_same c.in_ok-at.ensures.outcome.cause)
 
 pub returns-clause-pairs : goal.returns-clause-pairs

@@ -1,7 +1,7 @@
 use Rattle.std.proofs.Common.{◌≡◌, ◌∙◌, ℕ, refl, sym, ap, subst}
 use Rattle.std.proofs.lemmas.Result.{err_from_is_err_and}
 use Rattle.jet_lines.specs.LinesValue.{LinesValue}
-use Rattle.jet_worker.specs.Tallying.{IsSmall}
+use Rattle.jet_worker.specs.inner.Tallying.{IsSmall}
 use Rattle.jet_worker.proofs.LoopLemmas.{number_stays, progress_line, progress_piece, stops_at_cut, stops_at_line, stops_at_read}
 use Rattle.jet_worker.proofs.read.tally_lines.Goals as goal
 

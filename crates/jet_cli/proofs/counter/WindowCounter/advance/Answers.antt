@@ -5,7 +5,7 @@ use Rattle.jet_items.specs.Values.{RowValue}
 use Rattle.jet_file.specs.Text.{row_line}
 use Rattle.jet_policy.specs.MarkerValue.{HasSeen, IsRaised}
 use Rattle.jet_window.specs.Plain.{PlainValue}
-use Rattle.jet_cli.specs.Took.{mark_in}
+use Rattle.jet_cli.specs.inner.Took.{mark_in}
 use Rattle.jet_cli.proofs.MarkLemmas.{StepsTo, sees}
 use Rattle.jet_cli.proofs.counter.WindowCounter.advance.Goals as goal
 use Rattle.jet_cli.proofs.counter.WindowCounter.advance.Goals.{In-Some, In_default, After-see}

@@ -3,8 +3,8 @@ use Rattle.jet_items.specs.Marks.{is_behind}
 use Rattle.jet_items.specs.Values.{EventValue}
 use Rattle.jet_policy.specs.MarkerValue.{MarkerValue, HasSeen}
 use Rattle.jet_file.specs.Text.{late_line}
-use Rattle.jet_cli.specs.Advance.{Advanced}
-use Rattle.jet_cli.specs.Took.{mark_in, is_below}
+use Rattle.jet_cli.specs.inner.Advance.{Advanced}
+use Rattle.jet_cli.specs.inner.Took.{mark_in, is_below}
 use Rattle.jet_cli.proofs.TookLemmas.{counts_more, below_is_behind, notes_more, lines_more}
 use Rattle.jet_cli.proofs.counter.WindowCounter.take.Goals as goal
 

@@ -2,7 +2,7 @@ use Rattle.std.proofs.Common.{◌≡◌, List, length, drop, refl, sym, ◌∙�
 use Rattle.std.specs.Vec.{with_items}
 use Rattle.jet_tasklet.specs.declared.output.Output.{Output}
 use Rattle.jet_tasklet.specs.Outputs.{outputs_view, SomeWaits, sent_count, Says}
-use Rattle.jet_tasklet.specs.Leaving.{Leaves, IsStopped}
+use Rattle.jet_tasklet.specs.inner.Leaving.{Leaves, IsStopped}
 use Rattle.std.specs.List.{AllZip}
 use Rattle.jet_tasklet.specs.Turned.{OutputGoes}
 use Rattle.jet_tasklet.proofs.Lasting.{turned_gave}

@@ -1,7 +1,7 @@
 use Rattle.std.proofs.Common.{◌≡◌, []}
 use Rattle.jet_items.specs.Ranges.{IsWithin, most_row_end}
 use Rattle.jet_window.specs.FrameTables.{IsKept}
-use Rattle.jet_window.specs.NextEnds.{gap}
+use Rattle.jet_window.specs.inner.NextEnds.{gap}
 use Rattle.jet_window.specs.CombineStands.{Gave}
 use Rattle.jet_window.specs.CombineView.{combine_of}
 use Rattle.jet_window.proofs.combine.CombineP.give_all.Given as goal

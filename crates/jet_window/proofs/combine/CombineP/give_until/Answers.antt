@@ -3,7 +3,7 @@ use Rattle.std.proofs.lemmas.Int.{ints}
 use Rattle.jet_items.specs.Ranges.{IsWithin, most_row_end}
 use Rattle.jet_window.specs.declared.combine.CombineP.{CombineP}
 use Rattle.jet_window.specs.FrameTables.{IsKept}
-use Rattle.jet_window.specs.NextEnds.{IsNextEnd, gap}
+use Rattle.jet_window.specs.inner.NextEnds.{IsNextEnd, gap}
 use Rattle.jet_window.specs.CombineStands.{Gave}
 use Rattle.jet_window.proofs.Standing.{Gave-refl, Gave-trans}
 use Rattle.jet_window.specs.CombineView.{combine_of}

@@ -5,7 +5,7 @@ use Rattle.jet_items.specs.Values.{AccValue}
 use Rattle.jet_policy.specs.Policy.{IsPolicy}
 use Rattle.jet_window.specs.Tables.{Place}
 use Rattle.jet_window.specs.FrameTables.{Table, IsKept}
-use Rattle.jet_window.specs.NextEnds.{IsEndAbove, IsNextEnd}
+use Rattle.jet_window.specs.inner.NextEnds.{IsEndAbove, IsNextEnd}
 use Rattle.jet_window.specs.Combining.{Forgets}
 use Rattle.jet_window.proofs.Ending.{next_end_is, first_each, forget_first, Forgets-trans, popped}
 use Rattle.jet_window.proofs.combine.CombineP.next_end.Goals as goal

@@ -4,7 +4,7 @@ use Rattle.jet_items.specs.declared.item.Item.{Item}
 use Rattle.jet_items.specs.declared.item.Item.TheVariants as item
 use Rattle.jet_boxes.specs.Entry.{Given}
 use Rattle.jet_boxes.specs.Calls.{Call}
-use Rattle.jet_boxes.specs.Held.{Held}
+use Rattle.jet_boxes.specs.Held.{BoxView}
 use Rattle.jet_window.specs.declared.combine.CombineP.{CombineP}
 use Rattle.jet_window.specs.CombineCalls.{Stands, Amid, Alike}
 use Rattle.jet_window.specs.CombineStands.{IsFrame}
@@ -25,7 +25,7 @@ returns-in-Frame-clause-call c =
 pub returns-in-Ok-clause-call : goal.returns-in-Ok-clause-call
 returns-in-Ok-clause-call c =
     pass_call c.args.self.now c.args._port c.args._queue c.args.item.now c.args.out.now c.offer.new.self (not_frame c.args.item.now c.in_default.not-Frame) c.requires.3.2
-    (ap (λ (b : Held). b.room) c.in-Ok.ensures.put) (ap (λ (b : Held). b.items) c.in-Ok.ensures.put)
+    (ap (λ (b : BoxView). b.room) c.in-Ok.ensures.put) (ap (λ (b : BoxView). b.items) c.in-Ok.ensures.put)
 
 pub returns-in_err-keep-clause-call : goal.returns-in_err-keep-clause-call
 returns-in_err-keep-clause-call c =
@@ -34,7 +34,7 @@ returns-in_err-keep-clause-call c =
 
 pub returns-in-Err-clause-call : goal.returns-in-Err-clause-call
 returns-in-Err-clause-call c =
-    subst (λ (z : Held). Call Stands Amid Alike false c.args.self.now (Given c.args._port c.args._queue c.args.item.now) c.args.out.now (Ok false) c.args.self.now z) (sym c.in-Err.ensures.kept)
+    subst (λ (z : BoxView). Call Stands Amid Alike false c.args.self.now (Given c.args._port c.args._queue c.args.item.now) c.args.out.now (Ok false) c.args.self.now z) (sym c.in-Err.ensures.kept)
     (nothing_call c.args.self.now c.args.self.now c.args._port c.args._queue c.args.item.now c.args.out.now (Ok false) no_yes (λ e. c.in-Err.ensures.full) refl refl refl refl refl refl)
 
 pub returns-in_err-keep-clause-memory : goal.returns-in_err-keep-clause-memory

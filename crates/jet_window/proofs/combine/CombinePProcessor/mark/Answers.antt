@@ -1,7 +1,7 @@
 use Rattle.std.proofs.Common.{rules, true, false, ℤ, Ok, sym, ◌∙◌, ap, subst, refl, FitsSigned, to_z-of_z, w64}
-use Rattle.jet_boxes.specs.Entry.{Told}
+use Rattle.jet_boxes.specs.Entry.{MarkTold}
 use Rattle.jet_boxes.specs.Calls.{Call}
-use Rattle.jet_boxes.specs.Held.{Held}
+use Rattle.jet_boxes.specs.Held.{BoxView}
 use Rattle.jet_window.specs.Combining.{Passes, Clear, OpenAbove}
 use Rattle.jet_window.specs.CombineCalls.{Stands, Amid, Alike}
 use Rattle.jet_window.proofs.Giving.{when_err}
@@ -35,14 +35,14 @@ returns-in-Ok-clause-call c =
     let above = simp to_z-of_z at (c.give_until.ensures.above done) in
     let above_mark : OpenAbove c.give_until.new.self.policy.size c.give_until.new.self.policy.slide c.args.mark c.give_until.new.self.held.entries = subst (λ (t : ℤ). OpenAbove c.give_until.new.self.policy.size c.give_until.new.self.policy.slide t c.give_until.new.self.held.entries) c.mark.view_is above in
     mark_whole c.args.self.now c.give_until.new.self _ c.args.mark c.args.out.now c.give_until.new.out c.offer.new.self c.give_until.ensures.policy c.give_until.ensures.gave bound_mark c.give_until.ensures.room
-    (c.give_until.ensures.all done) clear_mark above_mark refl refl refl refl refl refl (ap (λ (b : Held). b.room) c.in-Ok.ensures.put) (ap (λ (b : Held). b.items) c.in-Ok.ensures.put)
+    (c.give_until.ensures.all done) clear_mark above_mark refl refl refl refl refl refl (ap (λ (b : BoxView). b.room) c.in-Ok.ensures.put) (ap (λ (b : BoxView). b.items) c.in-Ok.ensures.put)
 
 pub returns-in-Err-clause-call : goal.returns-in-Err-clause-call
 returns-in-Err-clause-call c =
     let fits : FitsSigned w64 c.mark.inside.t = search rules in
     let bound = simp to_z-of_z at c.give_until.ensures.bound in
     let bound_mark : Passes c.args.self.now.passed c.args.mark → Passes c.give_until.new.self.passed c.args.mark = subst (λ (t : ℤ). Passes c.args.self.now.passed t → Passes c.give_until.new.self.passed t) c.mark.view_is bound in
-    subst (λ (z : Held). Call Stands Amid Alike false c.args.self.now (Told c.args.mark) c.args.out.now (Ok false) c.give_until.new.self z) (sym c.in-Err.ensures.kept)
+    subst (λ (z : BoxView). Call Stands Amid Alike false c.args.self.now (MarkTold c.args.mark) c.args.out.now (Ok false) c.give_until.new.self z) (sym c.in-Err.ensures.kept)
     (mark_partial c.args.self.now c.give_until.new.self c.args.mark c.args.out.now c.give_until.new.out (Ok false) c.give_until.ensures.policy c.give_until.ensures.gave bound_mark c.give_until.ensures.room no_yes (λ e. c.in-Err.ensures.full))
 
 pub returns-in_err-give_until-clause-memory : goal.returns-in_err-give_until-clause-memory

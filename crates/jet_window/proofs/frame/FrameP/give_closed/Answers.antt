@@ -1,6 +1,6 @@
 use Rattle.std.proofs.Common.{rules, arith, ◌≡◌, ◌∷◌, ◌++◌, [], ℕ, ◌∙◌, ap, subst, ◌<ℤ◌, ◌≤ℤ◌, FitsSigned, to_z, of_z, to_z-of_z, w64}
 use Rattle.std.proofs.lemmas.Int.{ints}
-use Rattle.jet_boxes.specs.Held.{Held}
+use Rattle.jet_boxes.specs.Held.{BoxView}
 use Rattle.jet_items.specs.Ranges.{IsWithin, most_frame_end}
 use Rattle.jet_items.specs.Values.{AccValue}
 use Rattle.jet_items.specs.declared.item.Item.TheVariants as item
@@ -34,13 +34,13 @@ loop-at-preserved c =
     let is : c.loop-at.self.held.entries ≡ f ∷ c.pop_first.new.self.entries = popped c.loop-at.self.held.entries c.pop_first.new.self.entries c.pop_first.result f c.in-Some.ensures.first c.pop_first.ensures.variant.1 c.pop_first.ensures.removal in
     let kept : IsKept (f ∷ c.pop_first.new.self.entries) = subst IsKept is c.loop-at.invariant.kept in
     let offered = simp to_z-of_z at c.in_default-offer.ensures.put in
-    let put : c.offer.new.self.items ≡ c.loop-at.out.items ++ item.Frame (frame_of c.loop-at.self.vertex f) ∷ [] = ap (λ (b : Held). b.items) offered in
+    let put : c.offer.new.self.items ≡ c.loop-at.out.items ++ item.Frame (frame_of c.loop-at.self.vertex f) ∷ [] = ap (λ (b : BoxView). b.items) offered in
     let put_old : c.offer.new.self.items ≡ c.loop-at.out.items ++ item.Frame (frame_of c.args.self.now.vertex f) ∷ [] = subst (λ (v : ℕ). c.offer.new.self.items ≡ c.loop-at.out.items ++ item.Frame (frame_of v f) ∷ []) c.loop-at.invariant.vertex put in
     record {
       vertex = c.loop-at.invariant.vertex;
       policy = c.loop-at.invariant.policy;
       last = c.loop-at.invariant.last;
-      room = ap (λ (b : Held). b.room) offered ∙ c.loop-at.invariant.room;
+      room = ap (λ (b : BoxView). b.room) offered ∙ c.loop-at.invariant.room;
       kept = record { ordered = kept.ordered.1; ranges = kept.ranges.1 };
       moved = Moved-more c.args.self.now.vertex _ c.args.self.now.held.entries c.args.out.now.items c.loop-at.self.held.entries c.loop-at.out.items f c.pop_first.new.self.entries c.offer.new.self.items le c.loop-at.invariant.moved is put_old;
     }

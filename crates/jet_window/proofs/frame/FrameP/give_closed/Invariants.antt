@@ -1,6 +1,6 @@
 use Rattle.std.proofs.Common.{◌≡◌, length}
 use Rattle.jet_window.specs.FrameTables.{IsKept}
-use Rattle.jet_window.specs.FrameMoves.{Moved}
+use Rattle.jet_window.specs.inner.FrameMoves.{Moved}
 use Rattle.jet_window.proofs.frame.FrameP.give_closed.Given as goal
 
 abbrev pub invariant-loop-at : goal.invariant-loop-at

@@ -1,7 +1,7 @@
 use Rattle.std.proofs.Common.{rules, ap, refl, ◌∙◌}
 use Rattle.std.specs.Prelude.{List, position}
 use Rattle.jet_items.specs.Values.{RowValue}
-use Rattle.jet_window.specs.Held.{Held}
+use Rattle.jet_window.specs.Held.{WaitingRows}
 use Rattle.jet_window.proofs.Inserting.{greater, place_from, put_order, put_same}
 use Rattle.jet_window.proofs.ordered.OrderedRows.put.Goals as goal
 
@@ -13,9 +13,9 @@ invariant_of-self-2 c =
 
 pub returns-clause-ok : goal.returns-clause-ok
 returns-clause-ok c =
-    let passed = ap (λ (h : Held). h.passed) c.self.view_is in
-    let closed = ap (λ (h : Held). h.closed) c.self.view_is in
-    let rows = ap (λ (h : Held). h.rows) c.self.view_is in
+    let passed = ap (λ (h : WaitingRows). h.passed) c.self.view_is in
+    let closed = ap (λ (h : WaitingRows). h.closed) c.self.view_is in
+    let rows = ap (λ (h : WaitingRows). h.rows) c.self.view_is in
     (rw (← rows) (put_same c.args.row c.self.inside.rows.items c.insert.new.self.items c.unwrap_or-at.result c.in_ok-insert.ensures.items), rw (← passed, ← closed) refl)
 
 pub returns-clause-order : goal.returns-clause-order

@@ -1,5 +1,0 @@
-use Rattle.jet_tasklet.proofs.AnyRests.{starved_rest}
-use Rattle.jet_tasklet.proofs.any.AnyTasklet.starved_rests.Goals as goal
-
-pub returns : goal.returns
-returns c = starved_rest c.args.self.now

@@ -1,0 +1,4 @@
+-- What only private functions cite.
+pub mod Chain
+pub mod Leaving
+pub mod Noting

@@ -1,0 +1,4 @@
+-- What only private functions cite.
+pub mod FrameMoves
+pub mod NextEnds
+pub mod WindowOf

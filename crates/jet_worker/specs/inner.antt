@@ -1,0 +1,5 @@
+-- What only private functions cite.
+pub mod FileChecks
+pub mod Opening
+pub mod Stopped
+pub mod Tallying
