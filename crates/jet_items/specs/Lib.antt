@@ -1,5 +1,6 @@
 pub mod Bag
 pub mod Done
+pub mod Fits
 pub mod Frames
 pub mod Gives
 pub mod Grid

@@ -31,6 +31,8 @@ impl Model for Acc {
 }
 
 impl Acc {
+    ghost use Rattle.jet_items.specs.Fits.{AccFits};
+
     /// The accumulator of one value.
     pub fn one(v: i64) -> Acc
         requires { IsWithin most_time v }
@@ -66,5 +68,12 @@ impl Acc {
             self.count.wrapping_sub(other.count),
             self.sum.wrapping_sub(other.sum),
         )
+    }
+
+    /// A law for proofs above: each accumulator lies in the ranges of its types. The call does nothing.
+    pub fn fits(&self)
+        ensures { AccFits self.now }
+    {
+        let (_count, _sum) = (self.count, self.sum);
     }
 }

@@ -1,4 +1,6 @@
 // Events: one line of a telemetry file each.
+ghost use Rattle.std.specs.Prelude.{◌≡◌, length};
+
 use crate::Key;
 use std::marker::Model;
 
@@ -27,4 +29,24 @@ impl Model for Event {
     ghost invariant = { λ e. IsWithin most_time e.ts × AllByRecursion (IsWithin most_time) e.v };
 
     ghost inverse = { λ e. record { part = e.part; line = e.line; ts = e.ts; key = e.key; v = e.v } };
+}
+
+impl Event {
+    ghost use Rattle.jet_items.specs.Fits.{EventFits};
+
+    /// A law for proofs above: each event lies in the ranges of its types. The call does nothing.
+    pub fn fits(&self)
+        ensures { EventFits self.now }
+    {
+        let (_part, _line) = (self.part, self.line);
+        let _four = four(&self.v);
+        let _key = self.key.bytes();
+    }
+}
+
+// An array of four values has four, which a proof learns only from a call.
+pub(crate) fn four(v: &[i64; 4]) -> usize
+    ensures { length v.now ≡ 4 }
+{
+    v.len()
 }

@@ -23,3 +23,15 @@ impl Model for Frame {
 
     ghost inverse = { λ f. record { vertex = f.vertex; end = f.end; key = f.key; acc = f.acc } };
 }
+
+impl Frame {
+    ghost use Rattle.jet_items.specs.Fits.{FrameFits};
+
+    /// A law for proofs above: each frame lies in the ranges of its types. The call does nothing.
+    pub fn fits(&self)
+        ensures { FrameFits self.now }
+    {
+        let (_vertex, _key) = (self.vertex, self.key.bytes());
+        self.acc.fits();
+    }
+}

@@ -26,10 +26,27 @@ pub enum Item {
 }
 
 impl Item {
+    ghost use Rattle.jet_items.specs.Fits.{ItemFits};
+
     /// Whether the item ends its queue.
     pub fn is_done(&self) -> bool
         ensures { result ≡ is_done self.now }
     {
         matches!(self, Item::Done)
+    }
+
+    /// A law for proofs above: each item lies in the ranges of its types. The call does nothing.
+    pub fn fits(&self)
+        ensures { ItemFits self.now }
+    {
+        match self {
+            Item::Event(event) => event.fits(),
+            Item::Side(side) => side.fits(),
+            Item::Frame(frame) => frame.fits(),
+            Item::Row(row) => row.fits(),
+            Item::Late(late) => late.fits(),
+            Item::Mark(mark) => mark.fits(),
+            Item::Done | Item::Idle => {}
+        }
     }
 }

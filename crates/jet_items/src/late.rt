@@ -18,3 +18,15 @@ impl Model for Late {
 
     ghost inverse = { λ l. record { vertex = l.vertex; event = l.event } };
 }
+
+impl Late {
+    ghost use Rattle.jet_items.specs.Fits.{LateFits};
+
+    /// A law for proofs above: each late event lies in the ranges of its types. The call does nothing.
+    pub fn fits(&self)
+        ensures { LateFits self.now }
+    {
+        let _vertex = self.vertex;
+        self.event.fits();
+    }
+}

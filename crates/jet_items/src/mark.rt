@@ -34,4 +34,11 @@ impl Mark {
             None
         }
     }
+
+    /// A law for proofs above: each mark lies within 4·10^15 of 0. The call does nothing.
+    pub fn fits(&self)
+        ensures { IsWithin most_mark self.now }
+    {
+        let _t = self.t;
+    }
 }

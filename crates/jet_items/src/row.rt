@@ -23,3 +23,15 @@ impl Model for Row {
 
     ghost inverse = { λ r. record { vertex = r.vertex; end = r.end; key = r.key; acc = r.acc } };
 }
+
+impl Row {
+    ghost use Rattle.jet_items.specs.Fits.{RowFits};
+
+    /// A law for proofs above: each row lies in the ranges of its types. The call does nothing.
+    pub fn fits(&self)
+        ensures { RowFits self.now }
+    {
+        let (_vertex, _key) = (self.vertex, self.key.bytes());
+        self.acc.fits();
+    }
+}

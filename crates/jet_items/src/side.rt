@@ -1,5 +1,6 @@
 // Side rows: one line each of the table that a hash join looks keys up in.
 use crate::Key;
+use crate::event::four;
 use std::marker::Model;
 
 /// A row of a side file.
@@ -26,4 +27,16 @@ impl Model for Side {
     ghost invariant = { λ s. AllByRecursion (IsWithin most_time) s.v };
 
     ghost inverse = { λ s. record { line = s.line; key = s.key; label = s.label; v = s.v } };
+}
+
+impl Side {
+    ghost use Rattle.jet_items.specs.Fits.{SideFits};
+
+    /// A law for proofs above: each side row lies in the ranges of its types. The call does nothing.
+    pub fn fits(&self)
+        ensures { SideFits self.now }
+    {
+        let (_line, _four) = (self.line, four(&self.v));
+        let (_key, _label) = (self.key.bytes(), self.label.bytes());
+    }
 }
