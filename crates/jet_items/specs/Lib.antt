@@ -7,6 +7,7 @@ pub mod Grid
 pub mod Joins
 pub mod KeyBytes
 pub mod KeyFaults
+pub mod KeyWords
 pub mod Kinds
 pub mod LineText
 pub mod Marks
