@@ -1,5 +1,6 @@
 // Worked cases of keys, partitions and marks.
 use super::*;
+use std::collections::HashMap;
 use std::test::Fail;
 
 #[test]
@@ -26,6 +27,24 @@ fn keys_have_their_partitions(rt: HostRuntime) -> Result<(), Fail> {
     for (bytes, partition) in cases {
         let found = Key::read(bytes, 24).ok().map(|key| partition_of(&key));
         assert_eq!(rt; found, Some(partition));
+    }
+    Ok(())
+}
+
+#[test]
+fn a_table_finds_keys(rt: HostRuntime) -> Result<(), Fail> {
+    let mut places = HashMap::new(rt.alloc());
+    let cases: [(&[u8], u8); 3] = [(b"a", 0), (b"sensor-1", 1), (b"sensor-12:left", 2)];
+    for (bytes, place) in cases {
+        if let Ok(key) = Key::read(bytes, 24) {
+            assert_eq!(rt; places.insert(key, place).ok(), Some(None));
+        }
+    }
+    for (bytes, place) in cases {
+        let found = Key::read(bytes, 24)
+            .ok()
+            .and_then(|key| places.get(&key).copied());
+        assert_eq!(rt; found, Some(place));
     }
     Ok(())
 }
