@@ -7,8 +7,8 @@ ghost use Rattle.jet_items.specs.Totals.{one, joined};
 
 use std::marker::Model;
 
-/// How many values there are, their sum, the least and the greatest. Count and sum wrap, at 2^64 and 2^128, which no
-/// job reaches: a file has fewer than 2^32 lines.
+/// How many values there are, their sum, the least and the greatest, both within 10^15 of 0. Count and sum wrap, at 2^64
+/// and 2^128, which no job reaches: a file has fewer than 2^32 lines.
 #[derive(Clone, Copy)]
 pub struct Acc {
     pub count: u64,
@@ -33,7 +33,7 @@ impl Model for Acc {
 impl Acc {
     ghost use Rattle.jet_items.specs.Fits.{AccFits};
 
-    /// The accumulator of one value.
+    /// The accumulator of one value, which lies within 10^15 of 0.
     pub fn one(v: i64) -> Acc
         requires { IsWithin most_time v }
         ensures law { IsAccOf (v ∷ []) result }

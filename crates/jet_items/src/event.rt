@@ -7,7 +7,8 @@ use std::marker::Model;
 /// An event of a telemetry file.
 ///
 /// `ts` is event time in the file's own unit, and `v` are the line's values, 0 where a line has fewer than four; all
-/// lie within 10^15 of 0. `part` is the number of the file and `line` its line there, from 1 on.
+/// lie within 10^15 of 0: 31,000 years of milliseconds, and sums, ends and marks of them need no check for overflow. `part`
+/// is the number of the file and `line` its line there, from 1 on.
 #[derive(Clone, Copy)]
 pub struct Event {
     pub part: u16,

@@ -2,7 +2,8 @@
 use crate::{Acc, Key};
 use std::marker::Model;
 
-/// What is known of the events of a key from one multiple of the slide to the next, which is `end`.
+/// What is known of the events of a key from one multiple of the slide to the next, which is `end`. `end` lies within
+/// 1,001·10^12 of 0: a timestamp and one slide.
 #[derive(Clone, Copy)]
 pub struct Frame {
     pub vertex: u8,

@@ -28,6 +28,8 @@ pub enum KeyFault {
 }
 
 /// One to forty bytes of letters, digits and `_ - . : /`. Contracts see the list of its bytes.
+///
+/// A source file's keys have at most 24 bytes; forty leave room for the tags that a job joins to them, and are five words.
 #[derive(Clone, Copy)]
 pub struct Key {
     padded: [u8; 40],
@@ -56,7 +58,7 @@ impl Model for Key {
 impl Key {
     ghost use Rattle.jet_items.specs.KeyFaults.{key_at};
 
-    /// The key of these bytes, or the first fault of them.
+    /// The key of these bytes, or the first fault of them. `most`, from 1 to 40, is how many bytes the place allows.
     pub fn read(bytes: &[u8], most: u8) -> Result<Key, KeyFault>
         requires { (1 ≤ most) × (most ≤ 40) }
         ensures value { result ≡ key_at most bytes.now }

@@ -24,7 +24,7 @@ impl Model for Mark {
 }
 
 impl Mark {
-    /// The mark, where `t` lies in the range of marks.
+    /// The mark, where `t` lies in the range of marks, within 4·10^15 of 0: a timestamp less a lag and a grain, and more.
     pub fn new(t: i64) -> Option<Mark>
         ensures { SomeIff result (IsWithin most_mark t) t }
     {

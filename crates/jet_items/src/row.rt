@@ -2,7 +2,8 @@
 use crate::{Acc, Key};
 use std::marker::Model;
 
-/// What is known of the events of a key in the window that ends at `end`.
+/// What is known of the events of a key in the window that ends at `end`, within 1,002·10^12 of 0: a frame's end and one
+/// size.
 #[derive(Clone, Copy)]
 pub struct Row {
     pub vertex: u8,

@@ -41,6 +41,9 @@ impl PolicyFault {
 }
 
 /// The size and the slide of a window, in the unit of the timestamps.
+///
+/// Both are at most 10^12, so that the end of each window that holds a timestamp stays near the range of timestamps, 10^15,
+/// and far within 64 bits. A window has at most 1024 slides, which bounds what each event costs.
 #[derive(Clone, Copy)]
 pub struct WinPolicy {
     size: i64,
@@ -99,7 +102,7 @@ impl WinPolicy {
         self.slide
     }
 
-    /// The greatest multiple of the slide that is at most t.
+    /// The greatest multiple of the slide that is at most `t`, which lies within 4·10^15 of 0, the range of marks.
     pub fn floor(&self, t: i64) -> i64
         requires { IsWithin most_mark t }
         ensures greatest { IsFloor self.now.slide t result }
@@ -108,7 +111,7 @@ impl WinPolicy {
         t - t.rem_euclid(self.slide)
     }
 
-    /// The least multiple of the slide above ts: the end of its frame.
+    /// The least multiple of the slide above `ts`, which lies within 4·10^15 of 0: the end of its frame.
     pub fn frame_end(&self, ts: i64) -> i64
         requires { IsWithin most_mark ts }
         ensures least { IsFrameEnd self.now.slide ts result }
@@ -118,7 +121,7 @@ impl WinPolicy {
         self.floor(ts) + self.slide
     }
 
-    /// The end of the last window that holds the frame which ends here.
+    /// The end of the last window that holds the frame which ends here, within 1,001·10^12 of 0, the range of frames' ends.
     pub fn last_end(&self, end: i64) -> i64
         requires { IsWithin most_frame_end end }
         ensures last { IsMultiple self.now.slide end → IsLastEnd self.now.size self.now.slide end result }

@@ -59,5 +59,7 @@ fn the_mark_rises_or_stays(rt: HostRuntime) -> Result<(), Fail> {
         assert_eq!(rt; marker.see(ts).map(|mark| mark.t), mark);
     }
     assert_eq!(rt; marker.mark().map(|mark| mark.t), Some(20));
+    assert_eq!(rt; marker.is_behind(19), true);
+    assert_eq!(rt; marker.is_behind(20), false);
     Ok(())
 }
