@@ -1,5 +1,5 @@
 -- That the table of the bytes of keys has a bit for each byte that one has.
-use Rattle.std.proofs.Common.{◌≡◌, ℕ, zero, suc, ◌<◌, ◌/◌, ◌%◌, ◌^◌, List, [], ◌∷◌, Bool, true, false, ◌&&◌, nat_eq, bit_and, get_or, refl, arith, ◌⊎◌, inl, inr, ap, ◌∙◌, sym}
+use Rattle.std.proofs.Common.{◌≡◌, ℕ, zero, suc, ◌<◌, ◌/◌, ◌%◌, ◌^◌, List, [], ◌∷◌, Bool, true, false, ◌&&◌, nat_eq, bit_and, get_or, refl, arith, inl, inr, ap, ◌∙◌, sym}
 use Rattle.std.specs.Cmp.{first_so, second_so}
 use Rattle.std.proofs.lemmas.Bool.{cases_lt}
 use Rattle.jet_items.specs.KeyBytes.{is_key_byte}

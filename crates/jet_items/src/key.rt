@@ -1,5 +1,5 @@
 // Keys: one to forty bytes of a small alphabet, kept in place, so that a key is copied without memory.
-ghost use Rattle.std.specs.Prelude.{◌≡◌, ◌≤◌, ◌<◌, length, not, position, take, IfSome, ◌++◌, ◌-◌, replicate, ◌==◌, ◌+◌, [], ◌∷◌};
+ghost use Rattle.std.specs.Prelude.{◌≡◌, ◌≤◌, ◌<◌, length, not, position, take, IfSome, IfNone, ◌++◌, ◌-◌, replicate, ◌==◌, ◌+◌, [], ◌∷◌};
 ghost use Rattle.std.specs.Ordering.{nat_cmp, as_partial_cmp};
 ghost use Rattle.std.specs.Cmp.{partial_order_from_own_ties};
 ghost use Rattle.std.specs.Cmp.Lexicographic.{slice_cmp, pointwise, bytes_decides};
@@ -69,9 +69,13 @@ impl Key {
         if bytes.len() > most as usize {
             return Err(KeyFault::Long);
         }
-        match first_bad(bytes) {
+        let mut padded = [0; 40];
+        match fill(&mut padded, bytes) {
             Some(at) => Err(KeyFault::BadByte(at as u32)),
-            None => Ok(key_of(bytes)),
+            None => Ok(Key {
+                padded,
+                len: bytes.len() as u8,
+            }),
         }
     }
 
@@ -172,8 +176,7 @@ fn word(bytes: &[u8; 40], at: usize) -> u64
     ])
 }
 
-// The bytes of keys as bits: bit b % 64 of number b / 64 says whether b is one. A scan takes 10 instructions a byte with
-// it, and 17 with comparisons.
+// The bytes of keys as bits: bit b % 64 of number b / 64 says whether b is one. A look takes 7 instructions a byte.
 const KEY_BYTES: [u64; 4] = [0x07ff_e000_0000_0000, 0x07ff_fffe_87ff_fffe, 0, 0];
 
 fn is_key_byte(b: u8) -> bool
@@ -182,12 +185,22 @@ fn is_key_byte(b: u8) -> bool
     KEY_BYTES[usize::from(b / 64)] >> (b % 64) & 1 == 1
 }
 
-// Where the first byte stands that no key has.
-fn first_bad(bytes: &[u8]) -> Option<usize>
+// Writes the bytes over zeros, up to the first that no key has, and answers where that stands. A key of
+// seven bytes takes 104 instructions to read; 136 with a search first and a copy after it, and 179 with comparisons too.
+fn fill(padded: &mut [u8; 40], bytes: &[u8]) -> Option<usize>
+    requires zeros { padded.old ≡ replicate 40 0 }
+    requires room { length bytes.now ≤ 40 }
     ensures place { result ≡ position (λ b. not (is_key_byte b)) bytes.now }
     ensures bound { IfSome result (λ at. at < length bytes.now) }
+    ensures filled { IfNone result (padded.new ≡ bytes.now ++ replicate (40 - length bytes.now) 0) }
 {
-    bytes.iter().position(|b| !is_key_byte(*b))
+    for (at, b) in bytes.iter().enumerate() {
+        if !is_key_byte(*b) {
+            return Some(at);
+        }
+        padded[at] = *b;
+    }
+    None
 }
 
 // The key of bytes that are one.
