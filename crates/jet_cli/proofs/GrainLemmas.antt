@@ -13,7 +13,7 @@ use Rattle.jet_plan.specs.declared.setting_name.SettingName.TheVariants.{Lines}
 use Rattle.jet_plan.specs.declared.fault.PlanFault.TheVariants.{Setting}
 use Rattle.jet_plan.specs.Faults.{edge_faults, end_faults, fault, large_faults, range_faults, shape_faults}
 use Rattle.jet_plan.specs.First.{first_of, where_true}
-use Rattle.jet_plan.specs.SettingRanges.{is_between, limit_settings, wrong_limit, wrong_setting, wrong_size}
+use Rattle.jet_plan.specs.SettingRanges.{is_between, limit_settings, wrong_grant, wrong_limit, wrong_setting, wrong_size}
 use Rattle.jet_flow.specs.DataFiles.{data_files}
 use Rattle.jet_flow.specs.Grain.{IsGreatestDivisor, slides}
 use Rattle.jet_worker.specs.CheckText.{Checks}
@@ -81,7 +81,7 @@ pub lines_within : (dag : Dag) (s : Settings) → fault dag s ≡ None → (s.li
 unfolding range_faults
 lines_within dag s h =
     let none = none_each (range_faults dag s) (ranges_none dag s h) in
-    let limits = none_each (limit_settings s) (option_both (wrong_size s) (wrong_limit s) (not_mapped Setting (wrong_setting s) none.1.1.0)).1 in
+    let limits = none_each (limit_settings s) (option_both (wrong_limit s) (wrong_grant s) (option_both (wrong_size s) (option_or (wrong_limit s) (wrong_grant s)) (not_mapped Setting (wrong_setting s) none.1.1.0)).1).0 in
     within 1 4294967294 s.lines (not_not (is_between 1 4294967294 s.lines) (not_true (not (is_between 1 4294967294 s.lines)) Lines limits.1.1.1.0))
 
 -- ---- the unit of the watermarks

@@ -2,7 +2,7 @@
 use Rattle.std.proofs.Common.{◌≡◌, ℕ, ◌<◌, ◌≤◌, Bool, true, false, [], ◌∷◌, ◌&&◌, length, nat_le, refl, sym, subst, arith, pos, ℤ}
 use Rattle.std.specs.Prelude.{codes, Option, Some, None, option_map, Result, Ok, Err, if◌then◌else◌, All}
 use Rattle.jet_expr.specs.Term.{number}
-use Rattle.jet_plan.specs.Defaults.{defaults}
+use Rattle.jet_plan.specs.Defaults.{defaults, default_peak}
 use Rattle.serde_json.specs.Data.{Data, Items}
 use Rattle.serde_json.specs.Events.{items_len}
 use Rattle.serde_json.specs.Find.{get, as_bool, as_array, as_object}
@@ -23,7 +23,7 @@ use Rattle.jet_job.specs.Joints.{fields_form}
 use Rattle.jet_job.specs.Legs.{leg_at, legs_at}
 use Rattle.jet_job.specs.Sets.{entry_at, entries_at, set_at}
 use Rattle.jet_job.specs.Kinds.{own_fields, kind_at}
-use Rattle.jet_job.specs.SettingsText.{settings_fields, settings_at, or_empty}
+use Rattle.jet_job.specs.SettingsText.{settings_fields, settings_at, grants_at, or_empty}
 use Rattle.jet_job.specs.Vertices.{size_of, has_parallelism, parallelism_at, vertex_at}
 use Rattle.jet_job.specs.Edges.{edge_at}
 use Rattle.jet_job.specs.Jobs.{job_in}
@@ -61,6 +61,12 @@ edge_sound n d =
 setting_sound : (default : ℤ) (f : Field) (d : Data) → Sound Plain (optional default (of_form whole) place.Settings f d)
 setting_sound default f d = optional_form default whole place.Settings f d
 
+grants_sound : (window : ℤ) (d : Data) → Sound Plain (grants_at window d)
+grants_sound window d =
+    next Plain _ _ (setting_sound (default_peak window) field.Peak d) (λ peak.
+    next Plain _ _ (setting_sound defaults.multiplier field.Multiplier d) (λ multiplier.
+    last _ _ (setting_sound defaults.period field.Period d)))
+
 pub settings_sound : (d : Data) → Sound Plain (settings_at d)
 settings_sound d =
     next Plain _ _ (object_sound place.Settings d) (λ _.
@@ -72,7 +78,8 @@ settings_sound d =
     next Plain _ _ (setting_sound defaults.window field.Window d) (λ window.
     next Plain _ _ (setting_sound defaults.turns field.Turns d) (λ turns.
     next Plain _ _ (setting_sound defaults.ahead field.Ahead d) (λ ahead.
-    last _ _ (setting_sound defaults.lines field.Lines d))))))))))
+    next Plain _ _ (setting_sound defaults.lines field.Lines d) (λ lines.
+    last _ _ (grants_sound window d)))))))))))
 
 leg_sound : (n i : ℕ) (d : Data) → Sound Plain (leg_at n i d)
 leg_sound n i d =

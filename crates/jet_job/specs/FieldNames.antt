@@ -1,7 +1,7 @@
 -- The names of the members of a job file.
 use Rattle.std.specs.Prelude.{ℕ, List, codes}
 use Rattle.jet_job.specs.declared.field.Field.{Field}
-use Rattle.jet_job.specs.declared.field.Field.TheVariants.{Vertices, Edges, Settings, Name, Kind, Parallelism, Files, Lag, File, Set, Test, Legs, Value, Tag, Mode, Rekey, Fields, Size, Slide, From, To, Route, Distributed, Build, Workers, Members, Ring, Packet, Window, Turns, Ahead, Lines, Itself}
+use Rattle.jet_job.specs.declared.field.Field.TheVariants.{Vertices, Edges, Settings, Name, Kind, Parallelism, Files, Lag, File, Set, Test, Legs, Value, Tag, Mode, Rekey, Fields, Size, Slide, From, To, Route, Distributed, Build, Workers, Members, Ring, Packet, Window, Turns, Ahead, Lines, Peak, Multiplier, Period, Itself}
 
 abbrev pub field_name : Field → List ℕ
 field_name Vertices = codes "vertices"
@@ -36,4 +36,7 @@ field_name Window = codes "window"
 field_name Turns = codes "turns"
 field_name Ahead = codes "ahead"
 field_name Lines = codes "lines"
+field_name Peak = codes "peak"
+field_name Multiplier = codes "multiplier"
+field_name Period = codes "period"
 field_name Itself = codes ""

@@ -37,6 +37,9 @@ pub enum Field {
     Turns,
     Ahead,
     Lines,
+    Peak,
+    Multiplier,
+    Period,
     /// No member but the value itself, which is no object.
     Itself,
 }
@@ -79,6 +82,9 @@ impl Field {
             Field::Turns => "turns",
             Field::Ahead => "ahead",
             Field::Lines => "lines",
+            Field::Peak => "peak",
+            Field::Multiplier => "multiplier",
+            Field::Period => "period",
             Field::Itself => "",
         }
     }

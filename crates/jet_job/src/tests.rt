@@ -45,7 +45,8 @@ const LARGE: &str = r#"{"vertices":[
   {"from":"f","to":"b","route":"unicast"},
   {"from":"b","to":"x","route":"partitioned","distributed":true},
   {"from":"x","to":"z","route":"unicast","distributed":true}],
- "settings":{"workers":3,"members":2,"ring":16,"packet":256,"window":1000,"turns":5,"ahead":0,"lines":9}}"#;
+ "settings":{"workers":3,"members":2,"ring":16,"packet":256,"window":1000,"turns":5,"ahead":0,"lines":9,
+  "peak":2000,"multiplier":4,"period":8}}"#;
 
 // The fault of a text, if it has one.
 fn fault_of(alloc: Global, text: &str) -> Option<JobFault> {
@@ -106,6 +107,9 @@ fn a_large_job_is_read_and_accepted(rt: HostRuntime) -> Result<(), Fail> {
         turns: 5,
         ahead: 0,
         lines: 9,
+        peak: 2000,
+        multiplier: 4,
+        period: 8,
     };
     let job = read_job(rt.alloc(), LARGE.as_bytes())?;
     assert_eq!(rt; job.settings, settings);

@@ -1,6 +1,6 @@
 -- From groups of faults to all of them.
 use Rattle.std.proofs.Common.{◌≡◌, subst, ℕ, ◌≤◌, ◌^◌, List, [], ◌∷◌, ◌++◌, Bool, true, false, refl, sym, ap, ◌∙◌, Option, Some, None, arith, nat_lt, length, position, not, nat_le}
-use Rattle.std.specs.Prelude.{⊤, Result, Ok, Err, option_map, ℤ, pos, negsuc, unsigned_abs, ◌&&◌}
+use Rattle.std.specs.Prelude.{⊤, Result, Ok, Err, option_map, ℤ, pos, negsuc, unsigned_abs, int_le, ◌&&◌}
 use Rattle.std.specs.Result.{IsErr, IsErrAnd}
 use Rattle.std.specs.Option.{option_or}
 use Rattle.std.specs.List.{list_any}
@@ -11,7 +11,7 @@ use Rattle.jet_items.specs.Gives.{Gives, Fails}
 use Rattle.jet_plan.specs.declared.dag.Dag.{Dag}
 use Rattle.jet_plan.specs.declared.settings.Settings.{Settings}
 use Rattle.jet_plan.specs.declared.many.Many.TheVariants.{Vertices, Edges, Files}
-use Rattle.jet_plan.specs.declared.setting_name.SettingName.TheVariants.{Members, Ring}
+use Rattle.jet_plan.specs.declared.setting_name.SettingName.TheVariants.{Members, Ring, Packet, Window, Peak}
 use Rattle.jet_plan.specs.declared.fault.PlanFault.{PlanFault}
 use Rattle.jet_plan.specs.declared.fault.PlanFault.TheVariants.{TooMany, UnknownEnd, Cycle, Setting, TooLarge}
 use Rattle.jet_plan.specs.declared.large.Large.TheVariants.{Growth, Slots}
@@ -20,7 +20,7 @@ use Rattle.jet_plan.specs.Faults.{shape_faults, end_faults, edge_faults, range_f
 use Rattle.jet_plan.specs.Sizes.{sizes, too_many, files}
 use Rattle.jet_plan.specs.Names.{has_unknown_end}
 use Rattle.jet_plan.specs.Growth.{is_cyclic, growth}
-use Rattle.jet_plan.specs.SettingRanges.{is_between, wrong_setting, wrong_size, wrong_limit, size_settings}
+use Rattle.jet_plan.specs.SettingRanges.{is_between, wrong_setting, wrong_size, wrong_limit, wrong_grant, size_settings, limit_settings, grant_settings}
 use Rattle.jet_plan.specs.Rings.{slots}
 use Rattle.jet_plan.specs.Limits.{IsShaped, IsLimited}
 use Rattle.jet_plan.proofs.Unknowns.{none_unknown, none_passes}
@@ -111,6 +111,10 @@ pub option_none : {X : Type 0} (a b : Option X) → option_or a b ≡ None → a
 option_none None b h = refl
 option_none (Some x) b h = absurd (cc h)
 
+option_second : {X : Type 0} (a b : Option X) → option_or a b ≡ None → b ≡ None
+option_second None b h = h
+option_second (Some x) b h = absurd (cc h)
+
 pub not_not : (b : Bool) → not b ≡ false → b ≡ true
 not_not true h = refl
 not_not false h = absurd (cc h)
@@ -126,17 +130,39 @@ within : (least most : ℕ) (z : ℤ) → is_between least most z ≡ true → u
 within least most (pos n) h = to_le n most (second (nat_le least n) (nat_le n most) h)
 within least most (negsuc n) h = absurd (cc h)
 
+first_true : (a b : Bool) → (a && b) ≡ true → a ≡ true
+first_true true b h = refl
+first_true false b h = absurd (cc h)
+
+inside : (least most : ℕ) (z : ℤ) → is_between least most z ≡ true → (least ≤ unsigned_abs z) × (unsigned_abs z ≤ most)
+inside least most (pos n) h = (to_le least n (first_true (nat_le least n) (nat_le n most) h), to_le n most (second (nat_le least n) (nat_le n most) h))
+inside least most (negsuc n) h = absurd (cc h)
+
+-- the greatest grant is within its range
+abbrev peak_fits : Settings → Bool
+peak_fits s = int_le s.window s.peak && int_le s.peak (pos 16777216)
+
+granted : (window peak : ℤ) → (int_le (pos 1) window ≡ true) → (int_le window peak && int_le peak (pos 16777216)) ≡ true → unsigned_abs peak ≤ 16777216
+granted window (pos n) one h = to_le n 16777216 (second (int_le window (pos n)) (nat_le n 16777216) h)
+granted (pos m) (negsuc n) one h = absurd (cc h)
+granted (negsuc m) (negsuc n) one h = absurd (cc one)
+
 pub limited_of : (dag : Dag) (s : Settings) → IsShaped dag → first_of (range_faults dag s) ≡ None → IsLimited dag s
 unfolding range_faults
 limited_of dag s shaped h =
     let none = none_each (range_faults dag s) h in
-    let sizes = none_each (size_settings s) (option_none (wrong_size s) (wrong_limit s) (not_mapped Setting (wrong_setting s) none.1.1.0)) in
+    let settings = not_mapped Setting (wrong_setting s) none.1.1.0 in
+    let sizes = none_each (size_settings s) (option_none (wrong_size s) (option_or (wrong_limit s) (wrong_grant s)) settings) in
+    let limits = none_each (limit_settings s) (option_none (wrong_limit s) (wrong_grant s) (option_second (wrong_size s) (option_or (wrong_limit s) (wrong_grant s)) settings)) in
+    let grants = none_each (grant_settings s) (option_second (wrong_limit s) (wrong_grant s) (option_second (wrong_size s) (option_or (wrong_limit s) (wrong_grant s)) settings)) in
     record {
       vertices = shaped.vertices;
       edges = shaped.edges;
       files = shaped.files;
       members = within 1 4 s.members (not_not (is_between 1 4 s.members) (not_true (not (is_between 1 4 s.members)) Members sizes.1.0));
       ring = within 2 65536 s.ring (not_not (is_between 2 65536 s.ring) (not_true (not (is_between 2 65536 s.ring)) Ring sizes.1.1.0));
+      packet = inside 256 65536 s.packet (not_not (is_between 256 65536 s.packet) (not_true (not (is_between 256 65536 s.packet)) Packet sizes.1.1.1.0));
+      peak = granted s.window s.peak (first_true (int_le (pos 1) s.window) (int_le s.window (pos 16777216)) (not_not (is_between 1 16777216 s.window) (not_true (not (is_between 1 16777216 s.window)) Window limits.0))) (not_not (peak_fits s) (not_true (not (peak_fits s)) Peak grants.0));
     }
 
 -- ---- what a valid job keeps

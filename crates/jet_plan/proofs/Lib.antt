@@ -1,6 +1,7 @@
 pub mod CheckLaws
 pub mod CycleLaws
 pub mod Depths
+pub mod Fitting
 pub mod InductionLaws
 pub mod MeasureLaws
 pub mod Rounds

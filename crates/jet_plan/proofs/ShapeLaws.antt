@@ -3,6 +3,7 @@ use Rattle.std.proofs.Common.{◌≡◌, ◌≢◌, ℕ, zero, suc, ◌+◌, ◌
 use Rattle.std.specs.Prelude.{count_by, int_lt, pos, negsuc, ℤ, unsigned_abs, if◌then◌else◌}
 use Rattle.std.specs.Str.{bytes_eq}
 use Rattle.std.specs.List.{list_any, enumerate_from, Contains, AllPairs}
+use Rattle.std.specs.Option.{option_or}
 use Rattle.std.proofs.lemmas.Bool.{cases_order}
 use Rattle.std.proofs.lemmas.Bool.Decides.{nat_tests, eqb_tells}
 use Rattle.std.proofs.lemmas.List.{get_or_default, get_or-take, length-take}
@@ -26,7 +27,7 @@ use Rattle.jet_plan.specs.JobShape.{sends_events, takes_events, Leads, MeetsPart
 use Rattle.jet_plan.specs.Kinds.{is_side, is_join, is_accumulate, is_combine, is_sink, is_isolated, is_partitioned, is_broadcast}
 use Rattle.jet_plan.specs.Names.{has_name, is_double, first_double, end_is, AreKnown}
 use Rattle.jet_plan.specs.Paths.{leaves_window_path, mixes_sides}
-use Rattle.jet_plan.specs.SettingRanges.{is_between, wrong_setting, wrong_size, wrong_limit, size_settings}
+use Rattle.jet_plan.specs.SettingRanges.{is_between, wrong_setting, wrong_size, wrong_limit, wrong_grant, size_settings}
 use Rattle.jet_plan.proofs.CheckLaws.{none_each, not_true, not_mapped, not_not, option_none, group_none, after_shape, after_edges, valid_shaped, valid_acyclic}
 use Rattle.jet_plan.proofs.CycleLaws.{true_false, not_any, both, same_name, known_end, no_long_walk}
 use Rattle.jet_plan.proofs.Rounds.{or_false}
@@ -247,7 +248,7 @@ in_range : (dag : Dag) (s : Settings) → fault dag s ≡ None → is_between 1 
 unfolding range_faults
 in_range dag s h =
     let none = none_each (range_faults dag s) (group_none (range_faults dag s) (large_faults dag s) (after_edges dag s h)).0 in
-    let sizes = none_each (size_settings s) (option_none (wrong_size s) (wrong_limit s) (not_mapped Setting (wrong_setting s) none.1.1.0)) in
+    let sizes = none_each (size_settings s) (option_none (wrong_size s) (option_or (wrong_limit s) (wrong_grant s)) (not_mapped Setting (wrong_setting s) none.1.1.0)) in
     not_not (is_between 1 4 s.members) (not_true (not (is_between 1 4 s.members)) Members sizes.1.0)
 
 faultless : (dag : Dag) (s : Settings) → fault dag s ≡ None → Faultless dag s

@@ -1,5 +1,6 @@
 -- The instances, rings and links of a plan.
-use Rattle.std.specs.Prelude.{ℕ, zero, suc, ◌+◌, ◌*◌, ◌==◌, unsigned_abs, ◌||◌, List, sum_by, if◌then◌else◌}
+use Rattle.std.specs.Prelude.{ℕ, zero, suc, ◌+◌, ◌*◌, ◌/◌, ◌^◌, ◌==◌, min, max, unsigned_abs, ◌||◌, List, sum_by, if◌then◌else◌}
+use Rattle.std.specs.Int.{div_ceil}
 use Rattle.std.specs.List.{find}
 use Rattle.std.specs.Option.{option_map_or}
 use Rattle.jet_plan.specs.declared.edge.Edge.{Edge}
@@ -66,6 +67,13 @@ members s = unsigned_abs s.members
 abbrev pub ring_slots : Settings → ℕ
 ring_slots s = unsigned_abs s.ring
 
+-- the bytes of a packet, and those that a link may send at the most before they are acknowledged
+abbrev pub packet_bytes : Settings → ℕ
+packet_bytes s = unsigned_abs s.packet
+
+abbrev pub peak_bytes : Settings → ℕ
+peak_bytes s = unsigned_abs s.peak
+
 -- the rings of all edges, and one for each file
 abbrev pub rings : Dag → Settings → ℕ
 rings dag s = sum_by (rings_of (members s) dag.vertices) dag.edges + files dag.vertices
@@ -79,3 +87,11 @@ links dag s = sum_by (links_of (members s) dag.vertices) dag.edges
 -- the instances of all vertices but the sink, and two for each link
 abbrev pub tasklets : Dag → Settings → ℕ
 tasklets dag s = sum_by (λ v. if is_sink v.kind then 0 else all_instances (members s) v) dag.vertices + 2 * links dag s
+
+-- The buffers of each of so many links: a packet for each part of the peak, and one more to fill. There are 65536 at most,
+-- and all links together take at most 2 ^ 30 bytes; four of each always fit.
+abbrev pub buffers_each : ℕ → ℕ → ℕ → ℕ
+buffers_each links packet peak = if links == 0 then 4 else max 4 (min (div_ceil peak packet + 1) (min 65536 ((2 ^ 30) / (links * packet))))
+
+abbrev pub buffers : Dag → Settings → ℕ
+buffers dag s = buffers_each (links dag s) (packet_bytes s) (peak_bytes s)

@@ -10,7 +10,7 @@ use Rattle.jet_plan.specs.declared.kind.Kind.TheVariants.{Source, Accumulate}
 use Rattle.jet_plan.specs.declared.vertex.Vertex.{Vertex}
 use Rattle.jet_plan.specs.declared.settings.Settings.{Settings}
 use Rattle.jet_plan.specs.declared.setting_name.SettingName.{SettingName}
-use Rattle.jet_plan.specs.declared.setting_name.SettingName.TheVariants.{Workers, Members, Ring, Packet, Window, Turns, Ahead, Lines}
+use Rattle.jet_plan.specs.declared.setting_name.SettingName.TheVariants.{Workers, Members, Ring, Packet, Window, Turns, Ahead, Lines, Peak, Multiplier, Period}
 use Rattle.jet_plan.specs.First.{first_of, where_true}
 
 abbrev pub is_between : ℕ → ℕ → ℤ → Bool
@@ -38,9 +38,19 @@ limit_settings s = where_true (not (is_between 1 16777216 s.window)) Window
 abbrev pub wrong_limit : Settings → Option SettingName
 wrong_limit s = first_of (limit_settings s)
 
+-- those of what a link grants: the most is at least the least
+abbrev pub grant_settings : Settings → List (Option SettingName)
+grant_settings s = where_true (not (int_le s.window s.peak && int_le s.peak (pos 16777216))) Peak
+    ∷ where_true (not (is_between 1 16 s.multiplier)) Multiplier
+    ∷ where_true (not (is_between 1 1024 s.period)) Period
+    ∷ []
+
+abbrev pub wrong_grant : Settings → Option SettingName
+wrong_grant s = first_of (grant_settings s)
+
 -- the first setting that is out of its range
 abbrev pub wrong_setting : Settings → Option SettingName
-wrong_setting s = option_or (wrong_size s) (wrong_limit s)
+wrong_setting s = option_or (wrong_size s) (option_or (wrong_limit s) (wrong_grant s))
 
 -- a lag outside 0 to 10 ^ 15
 abbrev pub has_wrong_lag : Kind → Bool

@@ -1,10 +1,10 @@
 // Accepted jobs.
-ghost use Rattle.std.specs.Prelude.{◌≡◌, ◌≤◌, ◌^◌, MatchResult, nat_lt, false};
+ghost use Rattle.std.specs.Prelude.{◌≡◌, ◌≤◌, ◌*◌, ◌^◌, MatchResult, nat_lt, false};
 ghost use Rattle.std.specs.List.{list_any};
 ghost use Rattle.jet_plan.specs.Growth.{growth};
 ghost use Rattle.jet_plan.specs.Limits.{IsShaped, IsLimited};
 ghost use Rattle.jet_plan.specs.Plans.{IsValid, IsFirst};
-ghost use Rattle.jet_plan.specs.Rings.{rings, slots, links, tasklets};
+ghost use Rattle.jet_plan.specs.Rings.{rings, slots, links, tasklets, buffers, packet_bytes};
 
 use crate::all_faults::check_all;
 use crate::{Dag, PlanFault, Settings, numbers};
@@ -75,5 +75,15 @@ impl Plan {
         ensures { result ≡ links self.now.dag self.now.settings }
     {
         numbers::links(&self.dag, &self.settings)
+    }
+
+    /// The packet buffers of each link, 4 to 65536: one for each packet that its peak has and one to fill, as far as the
+    /// buffers of all links together take at most 2^30 bytes.
+    pub fn buffers(&self) -> u32
+        ensures value { result ≡ buffers self.now.dag self.now.settings }
+        ensures bound { (4 ≤ result) × (result ≤ 65536) }
+        ensures memory { links self.now.dag self.now.settings * packet_bytes self.now.settings * result ≤ 2 ^ 30 }
+    {
+        numbers::buffers(&self.dag, &self.settings)
     }
 }

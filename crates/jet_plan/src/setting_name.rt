@@ -11,7 +11,7 @@ pub enum SettingName {
     Ring,
     /// Bytes of a packet.
     Packet,
-    /// Bytes that may be sent and not yet acknowledged.
+    /// Bytes that a link may send and not yet have acknowledged, at the least.
     Window,
     /// Turns of a worker in an epoch.
     Turns,
@@ -19,6 +19,12 @@ pub enum SettingName {
     Ahead,
     /// Lines of a file.
     Lines,
+    /// Bytes that a link may send and not yet have acknowledged, at the most.
+    Peak,
+    /// How many times what was processed in a period may be sent in the next.
+    Multiplier,
+    /// Turns of a receiver in a period.
+    Period,
     /// The lag of the source with this number.
     Lag(u32),
 }

@@ -1,6 +1,6 @@
 // The ranges of settings, lags and window sizes.
 ghost use Rattle.std.specs.Prelude.{◌≡◌, ◌<◌, ◌&&◌, length, position, IfSome, int_le};
-ghost use Rattle.jet_plan.specs.SettingRanges.{wrong_setting, has_wrong_lag, wrong_sizes, wrong_size, wrong_limit, wrong_sizes_from};
+ghost use Rattle.jet_plan.specs.SettingRanges.{wrong_setting, has_wrong_lag, wrong_sizes, wrong_size, wrong_limit, wrong_grant, wrong_sizes_from};
 
 use crate::{Kind, SettingName, Settings, Vertex};
 use jet_policy::{PolicyFault, WinPolicy};
@@ -15,10 +15,9 @@ fn is_between(z: i64, least: i64, most: i64) -> bool
 pub fn first_wrong_setting(settings: &Settings) -> Option<SettingName>
     ensures { result ≡ wrong_setting settings.now }
 {
-    match wrong_size(settings) {
-        Some(name) => Some(name),
-        None => wrong_limit(settings),
-    }
+    wrong_size(settings)
+        .or(wrong_limit(settings))
+        .or(wrong_grant(settings))
 }
 
 // Of the settings of members, rings and packets the first that is out of its range.
@@ -50,6 +49,21 @@ fn wrong_limit(settings: &Settings) -> Option<SettingName>
         Some(SettingName::Ahead)
     } else if !is_between(settings.lines, 1, 4_294_967_294) {
         Some(SettingName::Lines)
+    } else {
+        None
+    }
+}
+
+// Of the settings of what a link grants the first that is out of its range.
+fn wrong_grant(settings: &Settings) -> Option<SettingName>
+    ensures { result ≡ wrong_grant settings.now }
+{
+    if !(settings.window <= settings.peak && settings.peak <= 16_777_216) {
+        Some(SettingName::Peak)
+    } else if !is_between(settings.multiplier, 1, 16) {
+        Some(SettingName::Multiplier)
+    } else if !is_between(settings.period, 1, 1024) {
+        Some(SettingName::Period)
     } else {
         None
     }

@@ -12,7 +12,7 @@ pub struct Settings {
     pub ring: i64,
     /// Bytes of a packet at most, 256 to 65536.
     pub packet: i64,
-    /// Bytes that may be sent and not yet acknowledged, 1 to 16777216.
+    /// Bytes that a link may send and not yet have acknowledged, at first and at the least, 1 to 16777216.
     pub window: i64,
     /// Turns of a worker in an epoch, 1 to 1024.
     pub turns: i64,
@@ -20,6 +20,12 @@ pub struct Settings {
     pub ahead: i64,
     /// Lines of a file at most, 1 to 4294967294: the number of a line, and of the one behind the last, is a `u32`.
     pub lines: i64,
+    /// Bytes that a link may send and not yet have acknowledged at the most, `window` to 16777216.
+    pub peak: i64,
+    /// How many times what a receiver has processed in a period its sender may send in the next, 1 to 16.
+    pub multiplier: i64,
+    /// Turns of a receiver after which what it grants is set anew, 1 to 1024.
+    pub period: i64,
 }
 
 impl Default for Settings {
@@ -38,6 +44,9 @@ impl Default for Settings {
             turns: 64,
             ahead: 10_000,
             lines: 4_294_967_294,
+            peak: 131_072,
+            multiplier: 3,
+            period: 64,
         }
     }
 }

@@ -358,6 +358,46 @@ fn the_base_job_is_accepted_or_refused(rt: HostRuntime) -> Result<(), Fail> {
     Ok(())
 }
 
+// What a plan of the base job on some members says of its buffers, with a packet, a least and a greatest grant.
+fn buffers(
+    alloc: Global,
+    members: i64,
+    packet: i64,
+    window: i64,
+    peak: i64,
+) -> Result<u32, Refused<PlanFault>> {
+    let settings = Settings {
+        members,
+        packet,
+        window,
+        peak,
+        ..Settings::default()
+    };
+    let dag = Dag {
+        vertices: vertices(alloc, &[SOURCE, WINDOW, COMBINE, SINK])?,
+        edges: edges(alloc, &[READ, GATHER, WRITE])?,
+    };
+    Ok(check(alloc, dag, settings)?.buffers())
+}
+
+#[test]
+fn links_have_buffers_for_their_peak(rt: HostRuntime) -> Result<(), Fail> {
+    let peak = Err(Refused::Fault(PlanFault::Setting(SettingName::Peak)));
+    let cases = [
+        (1, 16_384, 49_152, 131_072, Ok(4)),
+        (2, 16_384, 49_152, 131_072, Ok(9)),
+        (2, 256, 1, 1, Ok(4)),
+        (2, 256, 1, 16_777_216, Ok(65_536)),
+        (4, 65_536, 1, 16_777_216, Ok(257)),
+        (2, 16_384, 49_152, 1000, peak),
+        (2, 16_384, 1, 16_777_217, peak),
+    ];
+    for (members, packet, window, peak, wanted) in cases {
+        assert_eq!(rt; buffers(rt.alloc(), members, packet, window, peak), wanted);
+    }
+    Ok(())
+}
+
 const TWO_MEMBERS: &[u8] =
     b"vertex,0,s,source,2\nvertex,1,a,accumulate,2\nvertex,2,w,combine,2\nvertex,3,z,sink,1\nedge,0,s,a,unicast,2,0\nedge,1,a,w,partitioned,6,2\nedge,2,w,z,unicast,3,1\ntotal,12,12,12288,3\n";
 

@@ -2,6 +2,7 @@
 use Rattle.std.proofs.Common.{◌≡◌, ℕ, zero, suc, ◌+◌, ◌<◌, ◌≤◌, ℤ, pos, negsuc, Bool, true, false, not, List, [], ◌∷◌, ◌++◌, nat_lt, nat_le, position, Option, Some, None, All, refl, sym, ap, ◌∙◌, subst, arith, inl, inr}
 use Rattle.std.specs.Prelude.{◌&&◌, ◌||◌, ◌==◌, bytes_eq, flat_map, unsigned_abs}
 use Rattle.std.specs.Int.{◌∣◌}
+use Rattle.std.specs.Option.{option_or}
 use Rattle.std.proofs.lemmas.Bool.Decides.{nat_tests}
 use Rattle.std.proofs.lemmas.List.Elements.{All-head, All-tail}
 use Rattle.std.proofs.lemmas.Nat.Gcd.{dvd_antisymm, le_of_dvd}
@@ -23,7 +24,7 @@ use Rattle.jet_plan.specs.First.{first_of}
 use Rattle.jet_plan.specs.Kinds.{is_accumulate, is_combine, is_sink}
 use Rattle.jet_plan.specs.Names.{end_is, has_name}
 use Rattle.jet_plan.specs.Paths.{leaves_window_path}
-use Rattle.jet_plan.specs.SettingRanges.{is_between, limit_settings, wrong_limit, wrong_setting, wrong_size, wrong_sizes, wrong_sizes_from}
+use Rattle.jet_plan.specs.SettingRanges.{is_between, limit_settings, wrong_grant, wrong_limit, wrong_setting, wrong_size, wrong_sizes, wrong_sizes_from}
 use Rattle.jet_flow.specs.Grain.{IsGrain, slides, slides_of}
 use Rattle.jet_worker.proofs.ValidLemmas.{In, any_in, counted_in, edges_none, ends_none, first, found_in, implies, none_at, none_each, not_mapped, not_not, not_true, option_both, ranges_none, same_name, second, to_le}
 
@@ -37,7 +38,7 @@ pub lines_within : (dag : Dag) (s : Settings) → fault dag s ≡ None → (s.li
 unfolding range_faults
 lines_within dag s h =
     let none = none_each (range_faults dag s) (ranges_none dag s h) in
-    let limits = none_each (limit_settings s) (option_both (wrong_size s) (wrong_limit s) (not_mapped Setting (wrong_setting s) none.1.1.0)).1 in
+    let limits = none_each (limit_settings s) (option_both (wrong_limit s) (wrong_grant s) (option_both (wrong_size s) (option_or (wrong_limit s) (wrong_grant s)) (not_mapped Setting (wrong_setting s) none.1.1.0)).1).0 in
     within 1 4294967294 s.lines (not_not (is_between 1 4294967294 s.lines) (not_true (not (is_between 1 4294967294 s.lines)) Lines limits.1.1.1.0))
 
 -- ---- a valid job has a window
