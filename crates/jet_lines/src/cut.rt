@@ -6,6 +6,7 @@ ghost use Rattle.jet_lines.specs.Cutting.{IsFront};
 ghost use Rattle.jet_lines.specs.Feeds.{NoFeed};
 
 use crate::fault::LineFault;
+use memchr::memchr;
 
 /// The most bytes of a line, without its line feed and one carriage return.
 pub(crate) const MOST_BYTES: usize = 512;
@@ -87,13 +88,12 @@ fn feed_from(bytes: &[u8], clear: usize) -> Option<usize>
 
 // Where the first line feed stands.
 fn line_feed(bytes: &[u8]) -> Option<usize>
-    ensures place { result ≡ position (λ b. b == 10) bytes.now }
     ensures bound { IfSome result (λ at. at < length bytes.now) }
     ensures before { IfSome result (λ at. NoFeed bytes.now at) }
     ensures here { IfSome result (λ at. slice_index bytes.now at ≡ 10) }
     ensures none { IfNone result (NoFeed bytes.now (length bytes.now)) }
 {
-    bytes.iter().position(|b| *b == b'\n')
+    memchr(b'\n', bytes)
 }
 
 // A line without one carriage return at its end.

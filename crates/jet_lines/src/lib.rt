@@ -14,6 +14,7 @@ mod laws;
 mod line;
 mod lines;
 mod number;
+mod quick;
 mod record;
 mod split;
 
