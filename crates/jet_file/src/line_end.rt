@@ -1,6 +1,6 @@
 // A line that is written from its end. The digits of a number come out last first, so each is written where it stays,
-XX
-// joining them took 1,400.
+// and the whole line is appended to a text at once: 450 instructions for a row's line of 53 bytes, where texts of its parts
+// that were then joined took 3,700.
 ghost use Rattle.std.specs.Prelude.{◌≡◌, ◌++◌, ◌∷◌, [], ◌+◌, ◌<◌, ◌≤◌, length, decimal};
 ghost use Rattle.std.specs.Fmt.{signed_decimal};
 
