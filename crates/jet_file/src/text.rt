@@ -1,4 +1,4 @@
-// The texts of rows and late lines. Each is built whole before it is appended, so that want of memory appends nothing.
+// The texts of rows and late lines. Each is made whole before it is appended, so that want of memory appends nothing.
 ghost use Rattle.std.specs.Prelude.{◌≡◌, ◌≤◌, length, ◌++◌, [], ◌∷◌, pos, ◌≤ℤ◌, IfOk, OnOk, OnErr, decimal, string_bytes, flat_map, codes, map};
 ghost use Rattle.std.specs.Fmt.{signed_decimal};
 ghost use Rattle.jet_items.specs.LineText.{line_text};
@@ -8,8 +8,8 @@ use crate::line_end::LineEnd;
 use jet_items::{Acc, Key, Late, NoMemory, Row};
 use std::alloc::{AllocError, Global};
 
-/// Appends the line of a row of the window of this name and size:
-/// `NAME,START,END,KEY,COUNT,SUM,MIN,MAX`, where START is END less the size.
+/// Appends the line of a row of the window of this name and size, from 1 to 10^12:
+/// `NAME,START,END,KEY,COUNT,SUM,MIN,MAX`, where START is END less the size. The text grows by its own allocator.
 pub fn print_row(
     _alloc: Global,
     row: &Row,

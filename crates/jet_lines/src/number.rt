@@ -9,7 +9,7 @@ ghost use Rattle.jet_items.specs.Ranges.{IsWithin, most_time};
 // Timestamps and values lie within 10^15, so that sums of many stay far from the ends of their types.
 pub(crate) const MOST: u64 = 1_000_000_000_000_000;
 
-// As many digits as 10^15 has.
+// As many digits as 10^15 has: zeros before a number do not make it longer.
 const MOST_DIGITS: usize = 16;
 
 /// The number that a field spells: a minus or none, one to sixteen digits, and a value from -10^15 to 10^15.
