@@ -13,6 +13,9 @@ use std::io::{self, Write};
 
 const LINES: u32 = 10_000;
 
+// As many bytes as one read of a job asks for.
+const PIECE: usize = 4096;
+
 // How far to go.
 #[derive(Clone, Copy, PartialEq, Eq)]
 enum Step {
@@ -60,7 +63,7 @@ fn file_of(alloc: Global, quoted: bool) -> io::Result<Vec<u8>> {
 fn count_lines(alloc: Global, file: &[u8], step: Step) -> io::Result<u32> {
     let mut lines = Lines::new(alloc, LINES);
     let mut count = 0;
-    for piece in file.chunks(4096) {
+    for piece in file.chunks(PIECE) {
         if lines.put(piece).is_err() {
             return Err(io::Error::from(io::ErrorKind::OutOfMemory));
         }
