@@ -1,6 +1,6 @@
 // The first line of bytes that may go on. At most 514 bytes are searched for its end: a line of 512, a carriage return
 // and a line feed.
-ghost use Rattle.std.specs.Prelude.{◌≡◌, ◌≢◌, ◌+◌, ◌<◌, ◌≤◌, ◌==◌, ℕ, IfSome, IfNone, None, length, min, position, slice_index};
+ghost use Rattle.std.specs.Prelude.{◌≡◌, ◌+◌, ◌<◌, ◌≤◌, IfSome, IfNone, None, length, min, slice_index};
 ghost use Rattle.std.specs.Str.Lines.{strip_carriage_return};
 ghost use Rattle.jet_lines.specs.Cutting.{IsFront};
 ghost use Rattle.jet_lines.specs.Feeds.{NoFeed};

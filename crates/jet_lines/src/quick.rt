@@ -1,6 +1,6 @@
 // Lines without a quotation mark, read in one pass and in place: most lines of most files. What is answered is what the
 // definition says; a line with a fault, or with a quotation mark, is left to the reading of fields, which tells the fault.
-ghost use Rattle.std.specs.Prelude.{pos, neg_ℤ, ◌≡◌, ◌≤◌, ◌<◌, ◌++◌, ◌≢◌, Ok, Some, IfSome, length, option_map, position, take};
+ghost use Rattle.std.specs.Prelude.{pos, neg_ℤ, ◌≡◌, ◌≤◌, ◌++◌, Ok, Some, IfSome, length, option_map, take};
 ghost use Rattle.jet_items.specs.KeyFaults.{key_at};
 ghost use Rattle.jet_items.specs.Ranges.{IsWithin, most_time};
 ghost use Rattle.std.specs.List.{AllByRecursion};
