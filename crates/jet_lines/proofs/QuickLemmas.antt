@@ -1,5 +1,5 @@
 -- A line that is read in place is read as its fields.
-use Rattle.std.proofs.Common.{◌≡◌, ℕ, ℤ, pos, neg_ℤ, ◌==◌, ◌&&◌, ◌<◌, ◌≤◌, ◌+◌, not, List, [], ◌∷◌, ◌++◌, Bool, true, false, cond, nat_eq, nat_le, Some, None, Option, option_map, refl, ap, subst, sym, ◌∙◌, length, arith, rules, w64, to_z, of_z, to_z-of_z, FitsSigned, inl, inr, ◌-◌, take, drop, get_or}
+use Rattle.std.proofs.Common.{◌≡◌, ℕ, ℤ, pos, neg_ℤ, ◌==◌, ◌&&◌, ◌≤◌, ◌+◌, not, List, [], ◌∷◌, ◌++◌, Bool, true, false, cond, nat_eq, nat_le, Some, None, Option, option_map, refl, ap, sym, ◌∙◌, length, arith, rules, w64, to_z, of_z, to_z-of_z, FitsSigned, inl, inr, ◌-◌, take, drop, get_or}
 use Rattle.std.specs.List.{list_all}
 use Rattle.std.proofs.lemmas.List.{take_all}
 use Rattle.std.proofs.lemmas.Bool.{cases_Bool}
@@ -17,7 +17,7 @@ use Rattle.jet_lines.proofs.TestLemmas.{all_pass}
 use Rattle.jet_items.specs.Ranges.{IsWithin, most_time}
 use Rattle.jet_lines.specs.Numbers.{digits_at, number_at}
 use Rattle.jet_lines.specs.Quick.{AreValues, comma_and, fields_after, HasFront, HasNumber, HasValue, is_unquoted_byte}
-use Rattle.jet_lines.specs.Readings.{event_at, fields_at, key_or_fault, line_at, number_or_fault, side_at, value_at, values_at}
+use Rattle.jet_lines.specs.Readings.{event_at, fields_at, key_or_fault, line_at, number_or_fault, side_at, value_at}
 use Rattle.jet_lines.specs.declared.fault.LineFault.{LineFault}
 use Rattle.jet_lines.proofs.SplitLemmas.{unquoted}
 use Rattle.std.specs.List.{slice_split, slice_get, All}

@@ -1,4 +1,4 @@
-use Rattle.std.proofs.Common.{◌≡◌, FitsSigned, w64, to_z-of_z, decimal}
+use Rattle.std.proofs.Common.{FitsSigned, w64, to_z-of_z, decimal}
 use Rattle.std.specs.Fmt.{signed_decimal}
 use Rattle.jet_file.proofs.TextLemmas.{row_parts}
 use Rattle.jet_file.proofs.text.row_text.Goals as goal
