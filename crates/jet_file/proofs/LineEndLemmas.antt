@@ -1,5 +1,5 @@
 -- The room before the end of a line.
-use Rattle.std.proofs.Common.{◌≡◌, ℕ, ◌+◌, ◌-◌, ◌<◌, ◌≤◌, List, length, drop, ap, arith, length-drop, decimal}
+use Rattle.std.proofs.Common.{◌≡◌, ℕ, ◌+◌, ◌<◌, ◌≤◌, List, length, drop, ap, arith, length-drop, decimal}
 use Rattle.std.proofs.lemmas.Fmt.{length-decimal-le}
 
 -- what stands before the end
