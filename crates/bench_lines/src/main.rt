@@ -1,103 +1,94 @@
-//! Measures what a line of a source file costs: its cut out of pieces of 4096 bytes, and the reading of its event. Plain
-//! lines are measured, and then quoted ones, which want a csv reader.
+//! Cuts a generated file into lines and reads their events, for `bench/lines.sh` to count the instructions.
 //!
-//! It prints how many events were read, which it checks, and on standard error the lines of a second and the time of a
-//! line.
+//! The words say how far to go, `make` for the file alone, `cut` for its lines too and else their events, and with
+//! `quoted` each key stands between quotation marks. It prints how many lines or events there were.
 #![tactic(auto)]
 
 ghost use Rattle.std.specs.Prelude.{◌≡◌};
 
-use jet_lines::{Cut, Lines, read_event};
+use jet_lines::{Cut, Entry, Lines, read_line};
 use std::alloc::Global;
-use std::io;
-use std::time::{Clock, Instant};
+use std::env;
+use std::io::{self, Write};
 
-const LINES: u32 = 100_000;
+const LINES: u32 = 10_000;
 
-const PLAIN: &[u8] = b"1700000000000,sensor-1,215,17,-4\x0d\n";
+// As many bytes as one read of a job asks for.
+const PIECE: usize = 4096;
 
-const QUOTED: &[u8] = b"1700000000000,\"sensor-1\",215,17,-4\x0d\n";
+// How far to go.
+#[derive(Clone, Copy, PartialEq, Eq)]
+enum Step {
+    Make,
+    Cut,
+    Read,
+}
 
 fn main(rt: HostRuntime) -> io::Result<()> {
-    let (events, nanos) = measure(&rt, rt.alloc(), PLAIN)?;
-    println!(rt; "plain lines: {events} events")?;
-    eprintln!(rt;
-        "plain lines: {} a second, {} ns a line",
-        a_second(nanos),
-        a_line(nanos)
-    )?;
-    let (events, nanos) = measure(&rt, rt.alloc(), QUOTED)?;
-    println!(rt; "quoted lines: {events} events")?;
-    eprintln!(rt;
-        "quoted lines: {} a second, {} ns a line",
-        a_second(nanos),
-        a_line(nanos)
-    )?;
+    let mut step = Step::Read;
+    let mut quoted = false;
+    for word in env::args(&rt)?.skip(1) {
+        match word.as_str() {
+            "make" => step = Step::Make,
+            "cut" => step = Step::Cut,
+            "quoted" => quoted = true,
+            _ => {}
+        }
+    }
+    let file = file_of(rt.alloc(), quoted)?;
+    let count = if step == Step::Make {
+        LINES
+    } else {
+        count_lines(rt.alloc(), &file, step)?
+    };
+    if count != LINES {
+        return Err(io::Error::from(io::ErrorKind::InvalidData));
+    }
+    println!(rt; "{count} lines")?;
     Ok(())
 }
 
-// How many lines are read in a second, where all lines took so many nanoseconds.
-fn a_second(nanos: u128) -> u128 {
-    if nanos == 0 {
-        return 0;
-    }
-    u128::from(LINES) * 1_000_000_000 / nanos
-}
-
-// How many nanoseconds a line takes, where all lines took so many.
-fn a_line(nanos: u128) -> u128 {
-    nanos / u128::from(LINES)
-}
-
-// Reads a file of this line again and again, and answers how many events it gave, which is one a line, and in how many
-// nanoseconds. The file is made before the clock starts.
-fn measure(clock: &impl Clock, alloc: Global, line: &[u8]) -> io::Result<(u32, u128)> {
-    let file = file_of(alloc, line)?;
-    let start = Instant::now(clock)?;
-    let events = count_events(alloc, file.as_slice())?;
-    let nanos = start.elapsed(clock)?.as_nanos();
-    if events != LINES {
-        return Err(io::Error::from(io::ErrorKind::InvalidData));
-    }
-    Ok((events, nanos))
-}
-
-// A file that holds this line, with its end, again and again.
-fn file_of(alloc: Global, line: &[u8]) -> io::Result<Vec<u8>> {
+// The file: a line each seven milliseconds, of a hundred keys in turn.
+fn file_of(alloc: Global, quoted: bool) -> io::Result<Vec<u8>> {
     let mut file = Vec::new(alloc);
-    for _ in 0..LINES {
-        file.extend_from_slice(line).map_err(io::Error::from)?;
+    let mark = if quoted { "\"" } else { "" };
+    for i in 0..LINES {
+        let time = 1_700_000_000_000 + 7 * u64::from(i);
+        writeln!(file, "{time},{mark}sensor-{}{mark},{}", i % 100, i % 1000)?;
     }
     Ok(file)
 }
 
-// How many events the file gives. A bad line gives none, and nothing is read behind one that cannot be cut.
-fn count_events(alloc: Global, file: &[u8]) -> io::Result<u32> {
+// How many lines the file has, or how many events they hold.
+fn count_lines(alloc: Global, file: &[u8], step: Step) -> io::Result<u32> {
     let mut lines = Lines::new(alloc, LINES);
-    let mut events = 0;
-    for piece in file.chunks(4096) {
+    let mut count = 0;
+    for piece in file.chunks(PIECE) {
         if lines.put(piece).is_err() {
             return Err(io::Error::from(io::ErrorKind::OutOfMemory));
         }
-        take_events(alloc, &mut lines, &mut events);
+        count_ready(alloc, &mut lines, step, &mut count);
     }
-    lines.end();
-    take_events(alloc, &mut lines, &mut events);
-    Ok(events)
+    Ok(count)
 }
 
-// Reads the lines that stand ready, and counts their events.
-fn take_events(alloc: Global, lines: &mut Lines, events: &mut u32)
+// Counts the lines that stand ready, or their events.
+fn count_ready(alloc: Global, lines: &mut Lines, step: Step, count: &mut u32)
     ensures { lines.new.ended ≡ lines.old.ended }
 {
     'cuts: loop {
         match lines.next() {
             Cut::Line(number) => {
-                if let Ok(Some(_)) = read_event(alloc, lines.line(), 0, number) {
-                    *events = events.saturating_add(1);
+                if step == Step::Cut || has_event(alloc, lines.line(), number) {
+                    *count = count.saturating_add(1);
                 }
             }
             _ => return,
         }
     }
+}
+
+// Whether a line holds an event.
+fn has_event(alloc: Global, line: &[u8], number: u32) -> bool {
+    matches!(&read_line(alloc, line, 0, number), Ok(Entry::Event(_)))
 }

@@ -5,10 +5,12 @@ use Rattle.std.specs.Fmt.{signed_decimal}
 use Rattle.std.specs.Prelude.{codes}
 use Rattle.jet_items.specs.LineText.{line_text}
 
-pub row-parts : (name start end key count sum min max : List ℕ) →
-    name ++ ((44 ∷ (start ++ 44 ∷ (end ++ 44 ∷ []))) ++ (key ++ (44 ∷ (count ++ 44 ∷ (sum ++ 44 ∷ (min ++ 44 ∷ (max ++ 10 ∷ [])))))))
-    ≡ line_text (name ∷ start ∷ end ∷ key ∷ count ∷ sum ∷ min ∷ max ∷ [])
-row-parts name start end key count sum min max = simp append_assoc
+-- the line of a row, from its end on
+pub row_parts : (name start end key count sum min max numbers one two three all : List ℕ)
+    → numbers ≡ count ++ 44 ∷ (sum ++ 44 ∷ (min ++ 44 ∷ (max ++ 10 ∷ []))) → one ≡ key ++ 44 ∷ numbers
+    → two ≡ end ++ 44 ∷ one → three ≡ start ++ 44 ∷ two → all ≡ name ++ 44 ∷ three
+    → all ≡ line_text (name ∷ start ∷ end ∷ key ∷ count ∷ sum ∷ min ∷ max ∷ [])
+row_parts name start end key count sum min max numbers one two three all e1 e2 e3 e4 e5 = rw (e5, e4, e3, e2, e1) (simp append_assoc)
 
 -- fields after a first one stand each behind a comma
 joined_after : (key : List ℕ) (values : List ℤ)

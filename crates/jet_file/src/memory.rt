@@ -36,7 +36,7 @@ impl MemoryOutside {
     ghost use Rattle.jet_file.specs.Trace.{note_of};
 
     /// An outside with no files. The calls with the numbers in `fail`, from 1 on over all calls, answer Failed, and
-    /// each call moves at most `most` bytes.
+    /// each call moves at most `most` bytes, which is at least one.
     pub fn new(alloc: Global, fail: Vec<u64>, most: usize) -> Result<MemoryOutside, NoMemory>
         requires { 1 ≤ most }
         ensures ok { IsOk result }

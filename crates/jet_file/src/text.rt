@@ -1,16 +1,17 @@
-// The texts of rows and late lines. Each is built whole before it is appended, so that want of memory appends nothing.
-ghost use Rattle.std.specs.Prelude.{◌≡◌, ◌++◌, [], ◌∷◌, pos, ◌≤ℤ◌, IfOk, OnOk, OnErr, decimal, string_bytes, flat_map, codes, map};
+// The texts of rows and late lines. Each is made whole before it is appended, so that want of memory appends nothing.
+ghost use Rattle.std.specs.Prelude.{◌≡◌, ◌≤◌, length, ◌++◌, [], ◌∷◌, pos, ◌≤ℤ◌, IfOk, OnOk, OnErr, decimal, string_bytes, flat_map, codes, map};
 ghost use Rattle.std.specs.Fmt.{signed_decimal};
 ghost use Rattle.jet_items.specs.LineText.{line_text};
 ghost use Rattle.jet_file.specs.Text.{row_line, late_line};
 
+use crate::line_end::LineEnd;
 use jet_items::{Acc, Key, Late, NoMemory, Row};
 use std::alloc::{AllocError, Global};
 
-/// Appends the line of a row of the window of this name and size:
-/// `NAME,START,END,KEY,COUNT,SUM,MIN,MAX`, where START is END less the size.
+/// Appends the line of a row of the window of this name and size, from 1 to 10^12:
+/// `NAME,START,END,KEY,COUNT,SUM,MIN,MAX`, where START is END less the size. The text grows by its own allocator.
 pub fn print_row(
-    alloc: Global,
+    _alloc: Global,
     row: &Row,
     size: i64,
     name: &Key,
@@ -21,10 +22,9 @@ pub fn print_row(
     ensures err { OnErr result (to.new.items ≡ to.old.items) }
 {
     let end = row.end;
-    let start = end - size;
     let key = row.key;
-    let text = row_text(alloc, name.bytes(), start, end, key.bytes(), &row.acc)?;
-    to.extend_from_slice(&text)?;
+    let line = row_text(name.bytes(), end - size, end, key.bytes(), &row.acc);
+    to.extend_from_slice(line.bytes())?;
     Ok(())
 }
 
@@ -48,20 +48,36 @@ pub fn print_late(alloc: Global, late: &Late, name: &Key, to: &mut Vec<u8>) -> R
     Ok(())
 }
 
-fn row_text(
-    alloc: Global,
-    name: &[u8],
-    start: i64,
-    end: i64,
-    key: &[u8],
-    acc: &Acc,
-) -> Result<Vec<u8>, AllocError>
-    ensures { IfOk result (λ text. text.items ≡ line_text (name.now ∷ signed_decimal start ∷ signed_decimal end ∷ key.now
-        ∷ decimal acc.now.count ∷ signed_decimal acc.now.sum ∷ signed_decimal acc.now.min ∷ signed_decimal acc.now.max ∷ [])) }
+// The line of a row.
+fn row_text(name: &[u8], start: i64, end: i64, key: &[u8], acc: &Acc) -> LineEnd
+    requires { (length name.now ≤ 40) × (length key.now ≤ 40) }
+    ensures { result ≡ line_text (name.now ∷ signed_decimal start ∷ signed_decimal end ∷ key.now
+        ∷ decimal acc.now.count ∷ signed_decimal acc.now.sum ∷ signed_decimal acc.now.min ∷ signed_decimal acc.now.max ∷ []) }
 {
-    let span = span_text(alloc, start, end)?;
-    let tail = acc_text(alloc, acc)?;
-    joined(Vec::new(alloc), name, span.as_bytes(), key, tail.as_bytes())
+    let mut line = acc_text(acc);
+    line.text(key, b',');
+    line.number(end, b',');
+    line.number(start, b',');
+    line.text(name, b',');
+    line
+}
+
+// The numbers of an accumulator, and a line feed.
+fn acc_text(acc: &Acc) -> LineEnd
+    ensures line { result ≡ decimal acc.now.count ++ 44 ∷ (signed_decimal acc.now.sum
+        ++ 44 ∷ (signed_decimal acc.now.min ++ 44 ∷ (signed_decimal acc.now.max ++ 10 ∷ []))) }
+    ensures length { length result ≤ 104 }
+{
+    let count = acc.count;
+    let sum = acc.sum;
+    let min = acc.min;
+    let max = acc.max;
+    let mut line = LineEnd::new();
+    line.number(max, b'\n');
+    line.number(min, b',');
+    line.sum(sum, b',');
+    line.count(count, b',');
+    line
 }
 
 fn late_text(
@@ -80,25 +96,6 @@ fn late_text(
     let tail = values_text(alloc, values)?;
     let word = b"late,".to_vec(alloc)?;
     joined(word, name, place.as_bytes(), key, &tail)
-}
-
-// Start and end between commas.
-fn span_text(alloc: Global, start: i64, end: i64) -> Result<String, AllocError>
-    ensures { IfOk result (λ text. string_bytes text ≡ 44 ∷ (signed_decimal start ++ 44 ∷ (signed_decimal end ++ 44 ∷ []))) }
-{
-    format!(in alloc; ",{start},{end},")
-}
-
-// The numbers of an accumulator, each after a comma, and a line feed.
-fn acc_text(alloc: Global, acc: &Acc) -> Result<String, AllocError>
-    ensures { IfOk result (λ text. string_bytes text ≡ 44 ∷ (decimal acc.now.count ++ 44 ∷ (signed_decimal acc.now.sum
-        ++ 44 ∷ (signed_decimal acc.now.min ++ 44 ∷ (signed_decimal acc.now.max ++ 10 ∷ []))))) }
-{
-    let count = acc.count;
-    let sum = acc.sum;
-    let min = acc.min;
-    let max = acc.max;
-    format!(in alloc; ",{count},{sum},{min},{max}\n")
 }
 
 // File, line and time between commas.

@@ -65,7 +65,7 @@ good_append [] o ok = refl
 good_append (Ok p ∷ good) o ok = good_append good o ok
 good_append (Err f ∷ good) o ok = cc ok
 
-faults_behind : {A : Type 0} (n : ℕ) (good later : List (Result (Option A) LineFault)) (f : LineFault) → list_all is_ok good ≡ true
+pub faults_behind : {A : Type 0} (n : ℕ) (good later : List (Result (Option A) LineFault)) (f : LineFault) → list_all is_ok good ≡ true
     → first_of (filter_map fault_of (enumerate_from n (good ++ Err f ∷ later))) ≡ Some (n + length good, f)
 faults_behind n [] later f ok = ap (λ k. Some (k, f)) (and_none n)
 faults_behind n (Ok o ∷ good) later f ok =
@@ -73,12 +73,12 @@ faults_behind n (Ok o ∷ good) later f ok =
     faults_behind (n + 1) good later f ok ∙ ap (λ k. Some (k, f)) place
 faults_behind n (Err g ∷ good) later f ok = cc ok
 
-no_faults : {A : Type 0} (n : ℕ) (good : List (Result (Option A) LineFault)) → list_all is_ok good ≡ true → filter_map fault_of (enumerate_from n good) ≡ []
+pub no_faults : {A : Type 0} (n : ℕ) (good : List (Result (Option A) LineFault)) → list_all is_ok good ≡ true → filter_map fault_of (enumerate_from n good) ≡ []
 no_faults n [] ok = refl
 no_faults n (Ok o ∷ good) ok = no_faults (n + 1) good ok
 no_faults n (Err f ∷ good) ok = cc ok
 
-all_items : {A : Type 0} (good : List (Result (Option A) LineFault)) → list_all is_ok good ≡ true → items_of good ≡ filter_map item_of good
+pub all_items : {A : Type 0} (good : List (Result (Option A) LineFault)) → list_all is_ok good ≡ true → items_of good ≡ filter_map item_of good
 all_items [] ok = refl
 all_items (Ok o ∷ good) ok = ap (filter_map item_of) (take_while-cons is_ok (Ok o) good) ∙ ap (cons_option o) (all_items good ok)
 all_items (Err f ∷ good) ok = cc ok

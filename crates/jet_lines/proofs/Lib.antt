@@ -6,6 +6,7 @@ pub mod FileLemmas
 pub mod FormLemmas
 pub mod GrammarLemmas
 pub mod PlaceLemmas
+pub mod QuickLemmas
 pub mod SettledLemmas
 pub mod SplitLemmas
 pub mod TestLemmas

@@ -7,7 +7,7 @@ use Rattle.jet_items.specs.Values.{EventValue, SideValue}
 use Rattle.jet_lines.specs.declared.fault.LineFault.{LineFault}
 use Rattle.jet_lines.specs.declared.fault.LineFault.TheVariants.{TooMany}
 
--- the greatest number of lines of a file
+-- the greatest number of lines of a file, so that the number of the first line too many is one of 32 bits too
 abbrev pub most_lines : ℕ
 most_lines = 4294967294
 

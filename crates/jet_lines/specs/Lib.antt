@@ -7,5 +7,6 @@ pub mod Held
 pub mod Lines
 pub mod LinesValue
 pub mod Numbers
+pub mod Quick
 pub mod Readings
 pub mod Scan

@@ -2,15 +2,15 @@
 //
 // The first four say that what is read from the left, and what csv reads, is what the grammar says, and that
 // `Lines::next` has one right answer. Those that follow are for a loop over the lines of a source file (`events`) or
-// of a side file (`sides`): it has read some lines, all of them good, and takes one more. The last says in which order
-// events and idle notes stand.
-ghost use Rattle.std.specs.Prelude.{◌≡◌, ◌≢◌, ◌↔◌, ◌+◌, ◌<◌, ◌≤◌, ◌∷◌, ◌++◌, [], ℕ, List, length, All, AllPairs, Option, Some, None, Ok, Err, true};
-ghost use Rattle.std.specs.List.{list_all};
+// of a side file (`sides`): it has read some lines, all of them good, and takes one more. `lines_of_a_file_rise` says in
+// which order events and idle notes stand, and the last ones what one line gives.
+ghost use Rattle.std.specs.Prelude.{◌≡◌, ◌≢◌, ◌↔◌, ◌+◌, ◌<◌, ◌≤◌, ◌∷◌, ◌++◌, [], ℕ, List, length, map, filter_map, All, AllPairs, Option, Some, None, Result, Ok, Err, is_ok, true};
+ghost use Rattle.std.specs.List.{enumerate_from, list_all};
 ghost use Rattle.csv.specs.Machine.{next_record};
 ghost use Rattle.csv.specs.Reading.{default_config, strip_bom};
 ghost use Rattle.csv.specs.declared.parser.State.TheVariants as state;
 ghost use Rattle.jet_lines.specs.Cutting.{NextIs};
-ghost use Rattle.jet_lines.specs.Files.{are_good, EndAt, events_of, first_bad_line, GoOn, HoldAll, idles_of, whole_lines};
+ghost use Rattle.jet_lines.specs.Files.{are_good, EndAt, events_of, fault_of, first_bad_line, first_of, GoOn, HoldAll, idles_of, item_of, items_of, numbered_at, readings_in, whole_lines};
 ghost use Rattle.jet_lines.specs.Feeds.{NoFeed};
 ghost use Rattle.jet_lines.specs.Grammar.{IsLine, is_line_byte};
 ghost use Rattle.jet_lines.specs.Lines.{lines_of};
@@ -118,4 +118,37 @@ pub fn lines_of_a_file_rise()
     ensures idles_rise { (most : ℕ) (bytes : List ℕ) → AllPairs (λ m n. m < n) (idles_of most bytes) }
     ensures apart { (part most : ℕ) (bytes : List ℕ) → All (λ e. All (λ n. n ≢ e.line) (idles_of most bytes)) (events_of most part bytes) }
     ensures same_end { (part most : ℕ) (bytes : List ℕ) → first_bad_line idle_line most bytes ≡ first_bad_line (event_line part) most bytes }
+{}
+
+/// The event of a line has the number of its file and of the line.
+pub fn an_event_has_its_place()
+    ensures part { (part number : ℕ) (line : List ℕ) (e : EventValue) → event_line part number line ≡ Ok (Some e) → e.part ≡ part }
+    ensures line { (part number : ℕ) (line : List ℕ) (e : EventValue) → event_line part number line ≡ Ok (Some e) → e.line ≡ number }
+{}
+
+/// A line with more than 512 bytes has the fault `TooLong`, whatever its bytes are.
+pub fn a_long_line_has_its_fault()
+    ensures events { (part number : ℕ) (line : List ℕ) → 512 < length line → event_line part number line ≡ Err TooLong }
+    ensures sides { (number : ℕ) (line : List ℕ) → 512 < length line → side_line number line ≡ Err TooLong }
+{}
+
+/// A line holds what it is read as where the file may have so many lines, and else has the fault `TooMany`.
+pub fn a_line_is_read_by_its_number()
+    ensures events { (part most n : ℕ) (line : List ℕ) → n < most → numbered_at (event_line part) most (n + 1, line) ≡ event_line part (n + 1) line }
+    ensures events_over { (part most n : ℕ) (line : List ℕ) → most ≤ n → numbered_at (event_line part) most (n + 1, line) ≡ Err TooMany }
+    ensures sides { (most n : ℕ) (line : List ℕ) → n < most → numbered_at side_line most (n + 1, line) ≡ side_line (n + 1) line }
+    ensures sides_over { (most n : ℕ) (line : List ℕ) → most ≤ n → numbered_at side_line most (n + 1, line) ≡ Err TooMany }
+{}
+
+/// What the lines of a side file hold, taken apart at one line; and what such readings give, also where a caller made a
+/// fault of some, as of a row too many of one key.
+pub fn side_lines_are_read_in_order()
+    ensures apart { (most : ℕ) (given : List (List ℕ)) (line : List ℕ) (others : List (List ℕ)) → readings_in side_line most (given ++ line ∷ others)
+        ≡ readings_in side_line most given ++ numbered_at side_line most (length given + 1, line)
+        ∷ map (numbered_at side_line most) (enumerate_from (length given + 1 + 1) others) }
+    ensures count { (most : ℕ) (lines : List (List ℕ)) → length (readings_in side_line most lines) ≡ length lines }
+    ensures good { (good : List (Result (Option SideValue) LineFault)) → list_all is_ok good ≡ true → items_of good ≡ filter_map item_of good }
+    ensures no_fault { (n : ℕ) (good : List (Result (Option SideValue) LineFault)) → list_all is_ok good ≡ true → filter_map fault_of (enumerate_from n good) ≡ [] }
+    ensures first_fault { (n : ℕ) (good later : List (Result (Option SideValue) LineFault)) (fault : LineFault) → list_all is_ok good ≡ true
+        → first_of (filter_map fault_of (enumerate_from n (good ++ Err fault ∷ later))) ≡ Some (n + length good, fault) }
 {}

@@ -8,6 +8,7 @@ ghost use Rattle.jet_lines.specs.Readings.{Gives, entry_at, event_at, event_line
 use crate::entry::Entry;
 use crate::fault::LineFault;
 use crate::number::number_of;
+use crate::quick::{quick_event, quick_side};
 use crate::record::{record_of, text_at};
 use csv::ByteRecord;
 use jet_items::{Event, Key, Refused, Side};
@@ -33,6 +34,9 @@ pub fn read_line(
     }
     if line == IDLE {
         return Ok(Entry::Idle);
+    }
+    if let Some(event) = quick_event(line, part, number) {
+        return Ok(Entry::Event(event));
     }
     match record_of(alloc, line) {
         Ok(row) => match event_of(&row, part, number) {
@@ -70,6 +74,9 @@ pub fn read_side(
 {
     if line.is_empty() {
         return Ok(None);
+    }
+    if let Some(side) = quick_side(line, number) {
+        return Ok(Some(side));
     }
     match record_of(alloc, line) {
         Ok(row) => match side_of(&row, number) {

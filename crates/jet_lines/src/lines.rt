@@ -49,8 +49,8 @@ impl Model for Lines {
 }
 
 impl Lines {
-    /// A file of at most `most` lines, of which nothing came yet. Numbers of lines are `u32`, also of the first one too
-    /// many.
+    /// A file of at most `most` lines, 0 to 4,294,967,294, of which nothing came yet. Numbers of lines are `u32`, also
+    /// of the first one too many.
     pub fn new(alloc: Global, most: u32) -> Lines
         requires { most ≤ most_lines }
         ensures { result ≡ record { most = most; number = 0; ended = false; line = []; rest = []; held = 0 } }
@@ -67,7 +67,7 @@ impl Lines {
         }
     }
 
-    /// Takes the next piece of the file. Want of memory changes nothing of what comes next. Bytes that were given out are
+    /// Takes the next piece of the file, before its end was told. Want of memory changes nothing of what comes next. Bytes that were given out are
     /// let go, so that memory stays flat however long the file is.
     pub fn put(&mut self, piece: &[u8]) -> Result<(), NoMemory>
         requires { self.old.ended ≡ false }

@@ -22,6 +22,16 @@ fn event_of(alloc: Global, line: &[u8]) -> Option<Event> {
     }
 }
 
+// Whether line 7 of file 3 holds this event.
+fn holds(alloc: Global, line: &[u8], ts: i64, key: &[u8], v: [i64; 4]) -> bool {
+    match event_of(alloc, line) {
+        Some(event) => {
+            (event.part, event.line, event.ts, event.v) == (3, 7, ts, v) && event.key.bytes() == key
+        }
+        None => false,
+    }
+}
+
 // The fault of a line of a side file, if it has one.
 fn side_fault_of(alloc: Global, line: &[u8]) -> Option<LineFault> {
     match read_side(alloc, line, 1) {
@@ -34,7 +44,7 @@ fn side_fault_of(alloc: Global, line: &[u8]) -> Option<LineFault> {
 fn the_first_fault_counts(rt: HostRuntime) -> Result<(), Fail> {
     let alloc = rt.alloc();
     let long = [b'a'; 513];
-    let cases: [(&[u8], LineFault); 20] = [
+    let cases: [(&[u8], LineFault); 22] = [
         (&long, LineFault::TooLong),
         (b"5,\"a\x0d", LineFault::BadByte(4)),
         (b"5,a,1,\xc3\xa4", LineFault::BadByte(6)),
@@ -55,6 +65,8 @@ fn the_first_fault_counts(rt: HostRuntime) -> Result<(), Fail> {
         (b"5,\"a,b\",1", LineFault::Key(KeyFault::BadByte(1))),
         (b"5,a,", LineFault::Number(1)),
         (b"5,a,1,-,+", LineFault::Number(2)),
+        (b"00000000000000005,a,1", LineFault::Number(0)),
+        (b"5,a,--1", LineFault::Number(1)),
     ];
     for (line, fault) in cases {
         assert_eq!(rt; fault_of(alloc, line), Some(fault));
@@ -79,65 +91,70 @@ fn side_lines_have_faults_too(rt: HostRuntime) -> Result<(), Fail> {
     Ok(())
 }
 
+// Each line stands twice: it is read in place, and with a quotation mark by csv.
 #[test]
 fn good_lines_are_read(rt: HostRuntime) -> Result<(), Fail> {
     let alloc = rt.alloc();
-    let cases: [(&[u8], i64, &[u8], [i64; 4]); 4] = [
+    let cases: [(&[u8], &[u8], i64, &[u8], [i64; 4]); 4] = [
         (
             b"1700000000000,sensor-1,215",
-            1700000000000,
-            b"sensor-1",
-            [215, 0, 0, 0],
-        ),
-        (
             b"1700000000000,\"sensor-1\",215",
             1700000000000,
             b"sensor-1",
             [215, 0, 0, 0],
         ),
-        (b"-0005,a:b,\"-1\",2", -5, b"a:b", [-1, 2, 0, 0]),
+        (
+            b"-0005,a:b,-1,2",
+            b"-0005,a:b,\"-1\",2",
+            -5,
+            b"a:b",
+            [-1, 2, 0, 0],
+        ),
         (
             b"0,a,1,2,3,-1000000000000000",
+            b"\"0\",a,1,2,3,-1000000000000000",
             0,
             b"a",
             [1, 2, 3, -1000000000000000],
         ),
+        (
+            b"0000000000000007,abcdefghijklmnopqrstuvwx,-0,0000000000000008,9",
+            b"0000000000000007,abcdefghijklmnopqrstuvwx,-0,0000000000000008,\"9\"",
+            7,
+            b"abcdefghijklmnopqrstuvwx",
+            [0, 8, 9, 0],
+        ),
     ];
-    for (line, ts, key, v) in cases {
-        match event_of(alloc, line) {
-            Some(event) => {
-                assert_eq!(rt; (event.part, event.line, event.ts), (3, 7, ts));
-                assert_eq!(rt; event.key.bytes(), key);
-                assert_eq!(rt; event.v, v);
-            }
-            _ => assert!(rt; false),
-        }
+    for (plain, quoted, ts, key, v) in cases {
+        assert!(rt; holds(alloc, plain, ts, key, v));
+        assert!(rt; holds(alloc, quoted, ts, key, v));
     }
-    Ok(())
-}
-
-#[test]
-fn lines_without_an_event_are_read(rt: HostRuntime) -> Result<(), Fail> {
-    let alloc = rt.alloc();
     assert!(rt; matches!(&read_line(alloc, b"", 3, 7), Ok(Entry::Nothing)));
     assert!(rt; matches!(&read_line(alloc, b"#idle", 3, 7), Ok(Entry::Idle)));
-    assert!(rt; matches!(&read_side(alloc, b"", 7), Ok(None)));
     Ok(())
 }
 
 #[test]
-fn a_side_line_is_read(rt: HostRuntime) -> Result<(), Fail> {
-    match read_side(rt.alloc(), b"a,\"x\",10", 7) {
-        Ok(Some(side)) => {
-            assert_eq!(rt; side.line, 7);
-            assert_eq!(rt;
-                (side.key.bytes(), side.label.bytes()),
-                (b"a".as_slice(), b"x".as_slice())
-            );
-            assert_eq!(rt; side.v, [10, 0, 0, 0]);
+fn side_lines_are_read(rt: HostRuntime) -> Result<(), Fail> {
+    let alloc = rt.alloc();
+    let cases: [(&[u8], &[u8], [i64; 4]); 2] = [
+        (b"a,x,10", b"a,\"x\",10", [10, 0, 0, 0]),
+        (b"a,x", b"\"a\",x", [0; 4]),
+    ];
+    for (plain, quoted, v) in cases {
+        for line in [plain, quoted] {
+            match read_side(alloc, line, 7) {
+                Ok(Some(side)) => {
+                    assert_eq!(rt; side.line, 7);
+                    assert_eq!(rt; side.key.bytes(), b"a".as_slice());
+                    assert_eq!(rt; side.label.bytes(), b"x".as_slice());
+                    assert_eq!(rt; side.v, v);
+                }
+                _ => assert!(rt; false),
+            }
         }
-        _ => assert!(rt; false),
     }
+    assert!(rt; matches!(&read_side(alloc, b"", 7), Ok(None)));
     Ok(())
 }
 

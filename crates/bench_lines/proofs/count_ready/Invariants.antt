@@ -1,5 +1,5 @@
 use Rattle.std.proofs.Common.{◌≡◌, ◌-◌}
-use Rattle.bench_lines.proofs.take_events.Given as goal
+use Rattle.bench_lines.proofs.count_ready.Given as goal
 
 abbrev pub invariant-cuts : goal.invariant-cuts
 invariant-cuts l = l.lines.ended ≡ l.initial.lines.ended

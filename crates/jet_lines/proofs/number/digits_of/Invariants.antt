@@ -1,8 +1,0 @@
-use Rattle.std.proofs.Common.{◌≡◌, ◌≤◌, take, true}
-use Rattle.std.specs.List.{list_all}
-use Rattle.std.specs.Char.{is_ascii_digit}
-use Rattle.std.specs.Str.Parse.{digits_value}
-use Rattle.jet_lines.proofs.number.digits_of.Given as goal
-
-abbrev pub invariant-loop-b : goal.invariant-loop-b
-invariant-loop-b l = (list_all is_ascii_digit (take l.b-index l.digits) ≡ true) × (l.n ≡ digits_value 10 (take l.b-index l.digits)) × (l.n ≤ 1000000000000000)
