@@ -115,7 +115,3 @@ giving_exists xs ys os ps f g = let one = f g.0 g.1 in (g.0 ++ one.0, one.2)
 pub front_is : (items : List Item) (x : Item) → Some x ≡ slice_get items 0 → (xs : List Item) × (items ≡ x ∷ xs)
 front_is [] x h = absurd (cc)
 front_is (y ∷ ys) x h = let e : x ≡ y = cc in (ys, ap (λ (z : Item). z ∷ ys) (sym e))
-
-pub popped : (r : Option Item) (old new : BoxView) (x : Item) (xs : List Item) → (IsNone r → old.items ≡ []) → IfSome r (λ y. old ≡ record { room = new.room; items = y ∷ new.items }) → old.items ≡ x ∷ xs → new.items ≡ xs
-popped None old new x xs none some is = absurd (let e : old.items ≡ [] = none refl in cc)
-popped (Some y) old new x xs none some is = let e : y ∷ new.items ≡ x ∷ xs = sym (ap (λ (h : BoxView). h.items) some) ∙ is in cc
