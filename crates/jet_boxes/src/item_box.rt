@@ -64,8 +64,11 @@ impl ItemBox {
         ensures kept { IsFalse result → self.new ≡ self.old }
         ensures full { IsFalse result → length self.old.items ≡ self.old.room }
     {
-        let room = self.free();
-        room > 0 && self.items.push_back(*item).is_ok()
+        let fits = self.free() > 0;
+        if fits {
+            self.items.push_back_reserved(*item);
+        }
+        fits
     }
 
     /// The first item.

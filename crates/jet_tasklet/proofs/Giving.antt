@@ -1,7 +1,6 @@
 -- An output that was given an item.
 use Rattle.std.proofs.Common.{◌≡◌, Bool, true, false, cond, List, [], ◌∷◌, ◌++◌, map, refl, sym, ◌∙◌, ap, subst, append-nil, append_assoc, inl, inr}
-use Rattle.std.specs.Prelude.{All, Option, Some, None, slice_get, IsNone, IfSome}
-use Rattle.jet_boxes.specs.Held.{BoxView}
+use Rattle.std.specs.Prelude.{All, Some, slice_get}
 use Rattle.std.proofs.lemmas.List.Elements.{All-head, All-tail, All-cons, All-nil}
 use Rattle.std.proofs.lemmas.List.{map-append}
 use Rattle.jet_items.specs.declared.item.Item.{Item}

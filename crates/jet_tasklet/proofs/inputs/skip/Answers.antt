@@ -1,6 +1,6 @@
 use Rattle.std.proofs.Common.{◌≡◌, ℕ, List, get_or, refl, ap, arith}
 use Rattle.jet_tasklet.specs.declared.input.Input.{Input}
-use Rattle.jet_tasklet.specs.Inputs.{InputView, input_view, inputs_view}
+use Rattle.jet_tasklet.specs.Inputs.{input_view, inputs_view}
 use Rattle.jet_tasklet.specs.Taking.{Stands}
 use Rattle.jet_tasklet.proofs.Ports.{length_views, view_at, views_set}
 use Rattle.jet_tasklet.proofs.Spots.{stands_in}
