@@ -1,5 +1,5 @@
 -- Turns in a row, of a tasklet of any kind: kind by kind.
-use Rattle.std.proofs.Common.{◌≡◌, List}
+use Rattle.std.proofs.Common.{◌≡◌, ◌⊎◌, List, [], ◌++◌}
 use Rattle.jet_items.specs.declared.item.Item.{Item}
 use Rattle.jet_stages.specs.declared.stamp.Stamp.{Stamp}
 use Rattle.jet_stages.specs.declared.map.MapP.{MapP}

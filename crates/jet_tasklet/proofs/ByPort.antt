@@ -1,5 +1,5 @@
 -- What was told by the port through which it came: the data of each port is that of its queues, and builds come first.
-use Rattle.std.proofs.Common.{◌≡◌, ℕ, zero, suc, ◌<◌, Bool, true, false, cond, ℤ, List, [], ◌∷◌, ◌++◌, get_or, sum_by, refl, sym, ◌∙◌, ap, subst, append-nil, append_assoc, inl, inr, arith}
+use Rattle.std.proofs.Common.{◌≡◌, ℕ, zero, suc, ◌+◌, ◌<◌, Bool, true, false, cond, ℤ, List, [], ◌∷◌, ◌++◌, get_or, sum_by, refl, sym, ◌∙◌, ap, subst, append-nil, append_assoc, inl, inr, arith}
 use Rattle.std.specs.Prelude.{Option, Some, None, ◌⊎◌}
 use Rattle.std.specs.List.{flat_map}
 use Rattle.std.proofs.lemmas.List.Sums.{sum_by-append}
@@ -27,7 +27,7 @@ use Rattle.jet_tasklet.specs.Merging.{data_received}
 use Rattle.jet_tasklet.specs.Over.{streamed, built}
 use Rattle.jet_tasklet.specs.Steps.{finale}
 use Rattle.jet_tasklet.specs.Trace.{same_port, is_from, of_queue, watermark, called, tells, asks, entries_after, entries}
-use Rattle.jet_tasklet.proofs.Merging.{data_append, sums, sums_zero, sum_by-all_of, total, total_next, own_total, other_total}
+use Rattle.jet_tasklet.proofs.Merging.{data_append, sums, sums_same, sums_zero, sum_by-all_of, total, total_next, own_total, other_total}
 
 -- the data that came by a port
 abbrev pub port_data : Port → List Arrival → List Item

@@ -5,18 +5,24 @@ use Rattle.std.specs.Prelude.{Option, Some, slice_get}
 use Rattle.std.specs.List.{AllZip}
 use Rattle.jet_items.specs.declared.item.Item.{Item}
 use Rattle.jet_items.specs.Order.{Each}
+use Rattle.jet_boxes.specs.declared.port.Port.{Port}
+use Rattle.jet_boxes.specs.declared.port.Port.TheVariants.{Stream}
+use Rattle.jet_boxes.specs.Entry.{CallEntry}
 use Rattle.jet_ring.specs.Ring.{Ring, TxView, RxView}
 use Rattle.jet_conveyor.specs.Conveyor as conveyor
 use Rattle.jet_router.specs.declared.router.Router.{Router}
 use Rattle.jet_router.specs.Router as router
+use Rattle.jet_router.specs.Dest.{DestView}
 use Rattle.jet_tasklet.specs.declared.tasklet.Tasklet.{Tasklet}
+use Rattle.jet_tasklet.specs.declared.input.Input.{Input}
 use Rattle.jet_tasklet.specs.declared.output.Output.{Output}
 use Rattle.jet_tasklet.specs.declared.any.AnyTasklet.{AnyTasklet}
 use Rattle.jet_tasklet.specs.declared.any.AnyTasklet.TheVariants as any
 use Rattle.jet_tasklet.specs.Inputs.{InputView, inputs_view}
 use Rattle.jet_tasklet.specs.Outputs.{OutputView, outputs_view}
 use Rattle.jet_tasklet.specs.Turned.{InputGoes, OutputGoes, Turned}
-use Rattle.jet_tasklet.specs.Kinds.{stamps, maps, filters, flats, joins, frames, combines, outputs_of}
+use Rattle.jet_tasklet.specs.Keeps.{IsLawful, Goes}
+use Rattle.jet_tasklet.specs.Kinds.{stamps, maps, filters, flats, joins, frames, combines, inputs_of, outputs_of}
 use Rattle.jet_tasklet.specs.Any.{AnyIsLawful, AnyKeeps, AnyGoes, AnyTurned, any_with_output}
 use Rattle.jet_tasklet.specs.declared.arrival.Arrival.{Arrival}
 use Rattle.jet_tasklet.specs.Views.{ins, outs}

@@ -1,7 +1,7 @@
 -- The two ends of one ring, once they have met.
 use Rattle.std.proofs.Common.{◌≡◌, ℕ, zero, suc, ◌<◌, List, [], ◌∷◌, map, length, get_or, set, false, refl, sym, ◌∙◌, ap, subst, arith}
 use Rattle.std.specs.Prelude.{Some, slice_get}
-use Rattle.std.proofs.lemmas.List.{length-map}
+use Rattle.std.proofs.lemmas.List.{map-set, length-map}
 use Rattle.std.proofs.lemmas.Option.{slice_get_within}
 use Rattle.jet_items.specs.declared.item.Item.{Item}
 use Rattle.jet_boxes.specs.declared.port.Port.{Port}
@@ -22,10 +22,10 @@ use Rattle.jet_tasklet.specs.declared.any.AnyTasklet.TheVariants as any
 use Rattle.jet_tasklet.specs.Inputs.{InputView, input_view, inputs_view}
 use Rattle.jet_tasklet.specs.Outputs.{OutputView, output_view, outputs_view}
 use Rattle.jet_tasklet.specs.Lending.{with_input, with_output}
-use Rattle.jet_tasklet.specs.Kinds.{inputs_of, outputs_of}
+use Rattle.jet_tasklet.specs.Kinds.{stamps, maps, filters, flats, joins, frames, combines, inputs_of, outputs_of}
 use Rattle.jet_tasklet.specs.Any.{any_with_input, any_with_output}
 use Rattle.jet_tasklet.specs.Views.{ins, outs}
-use Rattle.jet_tasklet.specs.Meeting.{HasEnd, IsQueue, HasQueue, OutputMet, InputMet, GiverMet, TakerMet, AnyGiverMet, AnyTakerMet}
+use Rattle.jet_tasklet.specs.Meeting.{HasEnd, IsQueue, HasQueue, EndsMet, OutputMet, InputMet, GiverMet, TakerMet, AnyGiverMet, AnyTakerMet}
 use Rattle.jet_tasklet.proofs.Meeting.{input_keeps, output_keeps}
 use Rattle.jet_tasklet.proofs.AnyMeeting.{any_input_keeps, any_output_keeps}
 

@@ -1,7 +1,7 @@
 -- A meeting of the two ends of one ring.
 use Rattle.std.specs.Prelude.{◌≡◌, ℕ, ◌+◌, ◌≤◌, List, ◌++◌, Some, length, set, slice_get}
 use Rattle.jet_items.specs.declared.item.Item.{Item}
-use Rattle.jet_ring.specs.Ring.{TxView, RxView}
+use Rattle.jet_ring.specs.Ring.{Ring, TxView, RxView}
 use Rattle.jet_conveyor.specs.Conveyor as conveyor
 use Rattle.jet_router.specs.Router as router
 use Rattle.jet_boxes.specs.declared.port.Port.{Port}

@@ -1,6 +1,8 @@
 -- What came from all queues together, and the last mark that was told.
-use Rattle.std.specs.Prelude.{ℤ, List, [], Option, Some, None, fold, get_or}
+use Rattle.std.specs.Prelude.{ℤ, List, [], ◌∷◌, Option, Some, None, fold, get_or}
+use Rattle.std.specs.List.{flat_map}
 use Rattle.jet_items.specs.declared.item.Item.{Item}
+use Rattle.jet_items.specs.declared.item.Item.TheVariants as item
 use Rattle.jet_items.specs.Bag.{all_of}
 use Rattle.jet_items.specs.Kinds.{data_of}
 use Rattle.jet_boxes.specs.declared.port.Port.{Port}

@@ -1,7 +1,8 @@
 -- What a contract sees of a tasklet of any kind, as plain data.
-use Rattle.std.specs.Prelude.{List}
+use Rattle.std.specs.Prelude.{ℕ, List}
 use Rattle.jet_items.specs.declared.item.Item.{Item}
 use Rattle.jet_tasklet.specs.declared.step.Step.{Step}
+use Rattle.jet_tasklet.specs.declared.tasklet.Tasklet.{Tasklet}
 use Rattle.jet_tasklet.specs.declared.any.AnyTasklet.{AnyTasklet}
 use Rattle.jet_tasklet.specs.declared.any.AnyTasklet.TheVariants as any
 use Rattle.jet_tasklet.specs.Inputs.{InputView, inputs_view}

@@ -1,6 +1,8 @@
-use Rattle.std.proofs.Common.{◌∙◌, sym}
+use Rattle.std.proofs.Common.{◌≡◌, ◌∙◌, sym, List}
+use Rattle.std.specs.Prelude.{Some, slice_get}
 use Rattle.std.proofs.lemmas.Option.{slice_get_within}
-use Rattle.jet_ring.specs.Ring.{tx_ring, tx_view}
+use Rattle.jet_ring.specs.Ring.{TxView, tx_ring, tx_view}
+use Rattle.jet_items.specs.declared.item.Item.{Item}
 use Rattle.jet_conveyor.specs.Conveyor as conveyor
 use Rattle.jet_router.specs.Router as router
 use Rattle.jet_router.specs.Lending.{with_tx}

@@ -1,5 +1,9 @@
+use Rattle.jet_items.specs.declared.item.Item.{Item}
+use Rattle.std.proofs.Common.{List}
 use Rattle.jet_tasklet.specs.Inputs.{inputs_view}
+use Rattle.jet_tasklet.specs.Keeps.{Keeps}
 use Rattle.jet_tasklet.specs.Over.{told_of, IsTold}
+use Rattle.jet_tasklet.specs.declared.arrival.Arrival.{Arrival}
 use Rattle.jet_tasklet.proofs.Over.{is_told, gave_so_far}
 use Rattle.jet_tasklet.proofs.tasklet.Tasklet.law_gives_so_far.Goals as goal
 
