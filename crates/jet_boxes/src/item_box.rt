@@ -1,6 +1,6 @@
 // Boxes: bounded lists, first in first out. The memory of a box is taken when it is made, so that no offer wants
 // memory, and a full box is an answer that gives the item back.
-ghost use Rattle.std.specs.Prelude.{◌≡◌, ◌+◌, ◌<◌, ◌≤◌, ◌↔◌, [], ◌∷◌, ◌++◌, length, slice_get, IsNone, IfOk, OnOk, OnErr, IfErr, IfSome, IfNone};
+ghost use Rattle.std.specs.Prelude.{◌≡◌, ◌+◌, ◌<◌, ◌≤◌, ◌↔◌, [], ◌∷◌, ◌++◌, length, drop, slice_get, IsTrue, IsFalse, IsNone, IfOk, OnOk, OnErr, IfErr, IfSome, IfNone};
 ghost use Rattle.std.specs.Option.{option_copied};
 
 use jet_items::{Item, NoMemory};
@@ -57,6 +57,20 @@ impl ItemBox {
         self.items.push_back(item).map_err(|failed| failed.value)
     }
 
+    /// Puts a copy of the item last, and answers whether there was room.
+    pub fn put(&mut self, item: &Item) -> bool
+        ensures put { IsTrue result → self.new ≡ record self.old { items = self.old.items ++ item.now ∷ [] } }
+        ensures fits { IsTrue result → length self.old.items < self.old.room }
+        ensures kept { IsFalse result → self.new ≡ self.old }
+        ensures full { IsFalse result → length self.old.items ≡ self.old.room }
+    {
+        let fits = self.free() > 0;
+        if fits {
+            self.items.push_back_reserved(*item);
+        }
+        fits
+    }
+
     /// The first item.
     pub fn front(&self) -> Option<&Item>
         ensures { option_copied result ≡ slice_get self.now.items 0 }
@@ -71,6 +85,13 @@ impl ItemBox {
         ensures kept { IfNone result (self.new ≡ self.old) }
     {
         self.items.pop_front()
+    }
+
+    /// Drops the first item, if there is one, once it was looked at in its place.
+    pub fn skip(&mut self)
+        ensures { self.new ≡ record self.old { items = drop 1 self.old.items } }
+    {
+        let _ = self.items.pop_front();
     }
 
     /// How many more items fit.

@@ -36,6 +36,22 @@ fn the_first_item_in_is_the_first_out(rt: HostRuntime) -> Result<(), Fail> {
     Ok(())
 }
 
+#[test]
+fn an_item_is_copied_in_and_skipped(rt: HostRuntime) -> Result<(), Fail> {
+    let mut outbox = Outbox::new(rt.alloc(), 2)?;
+    assert!(rt; outbox.put(&Item::Mark(Mark { t: 7 })));
+    assert!(rt; outbox.put(&Item::Done));
+    assert!(rt; !outbox.put(&Item::Done));
+    assert_eq!(rt; is_done(outbox.front()), Some(false));
+    outbox.skip();
+    assert_eq!(rt; is_done(outbox.front()), Some(true));
+    outbox.skip();
+    assert_eq!(rt; is_done(outbox.front()), None);
+    outbox.skip();
+    assert_eq!(rt; outbox.free(), 2);
+    Ok(())
+}
+
 fn popped_apart<R: Threads + Sync>(rt: &R, inbox: Inbox) -> (Inbox, Option<Item>) {
     let (popped, _) = thread::join(
         rt,

@@ -1,5 +1,6 @@
 -- Views of a conveyor.
 use Rattle.std.proofs.Common.{◌≡◌, ◌≢◌, ℕ, zero, suc, ◌<◌, ◌≤◌, List, [], ◌∷◌, ◌++◌, map, get_or, length, Bool, true, false, All, refl, sym, ◌∙◌, ap, subst, inl, inr, arith, append_assoc}
+use Rattle.std.specs.Prelude.{Option, Some, None, IfSome, IfNone}
 use Rattle.std.proofs.lemmas.Bool.{cases_eq}
 use Rattle.std.proofs.lemmas.List.{get_or-set_same, get_or-set_other, get_or-replicate, length-map, append-nil}
 use Rattle.std.proofs.lemmas.List.Elements.{All-append, All-cons, All-nil, All-head, All-tail}
@@ -7,12 +8,10 @@ use mathlib.Core.List.{IsPrefix}
 use Rattle.jet_items.specs.declared.item.Item.{Item}
 use Rattle.jet_items.specs.Done.{is_done}
 use Rattle.jet_ring.specs.Ring as ring
+use Rattle.jet_ring.proofs.Lists.{prefix_trans}
 use Rattle.jet_ring.specs.declared.ends.Rx.{Rx}
 use Rattle.jet_conveyor.specs.declared.conveyor.Conveyor.{Conveyor}
-use Rattle.jet_conveyor.specs.declared.conveyor.Polled.{Polled}
-use Rattle.jet_conveyor.specs.declared.conveyor.Polled.TheVariants.{Taken, Nothing}
-use Rattle.jet_conveyor.specs.Polled.{IfTaken, OnNothing}
-use Rattle.jet_conveyor.specs.Conveyor.{View, view, TookFrom, IsNew, Refreshed, NoneKnown, SeesMore, IsClosed, EndsIn, received_at, known_at, is_done_at}
+use Rattle.jet_conveyor.specs.Conveyor.{View, view, TookFrom, IsNew, HasItem, Found, Refreshed, NoneKnown, SeesMore, IsClosed, EndsIn, received_at, known_at, is_done_at}
 
 -- views with the same parts are the same
 pub same_view : {a b : View} → b.rings ≡ a.rings → b.received ≡ a.received → b.known ≡ a.known → b.done ≡ a.done → b.cursor ≡ a.cursor → b ≡ a
@@ -22,10 +21,6 @@ same_view {a} {b} r v k d c =
     ∙ ap (λ x. record { rings = a.rings; received = a.received; known = x; done = b.done; cursor = b.cursor }) k
     ∙ ap (λ x. record { rings = a.rings; received = a.received; known = a.known; done = x; cursor = b.cursor }) d
     ∙ ap (λ x. record { rings = a.rings; received = a.received; known = a.known; done = a.done; cursor = x }) c
-
--- what was taken after nothing changed
-pub took_after : {a b c : View} {q : ℕ} {x : Item} → b ≡ a → TookFrom b c q x → TookFrom a c q x
-took_after {a} {b} {c} {q} {x} e t = let P : View → Type 0 = λ v. TookFrom v c q x in subst P e t
 
 -- where nothing changed, nothing is forgotten
 pub sees_same : (a b : View) → b ≡ a → SeesMore a b
@@ -48,6 +43,16 @@ sees_refreshed a b q r p k = elim (cases_eq k q) as (λ _. IsPrefix (received_at
   | inl e ↦ let P : ℕ → Type 0 = λ i. IsPrefix (received_at a i ++ known_at a i) (received_at b i ++ known_at b i) in subst P (sym e) p
   | inr ne ↦ kept_there a b k (ap (λ l. get_or l k []) r.received) (r.others k ne)
 ]
+
+-- after a look
+pub sees_found : (a b : View) (q : ℕ) → Found a b q → SeesMore a b
+sees_found a b q f =
+    let r : received_at b q ≡ received_at a q = ap (λ l. get_or l q []) f.same.received in
+    sees_refreshed a b q f.same
+    (f.known.0, append_assoc (received_at a q) (known_at a q) f.known.0 ∙ (ap (λ w. received_at a q ++ w) f.known.1 ∙ ap (λ w. w ++ known_at b q) (sym r)))
+
+pub sees_trans : (a b c : View) → SeesMore a b → SeesMore b c → SeesMore a c
+sees_trans a b c f g k = prefix_trans (received_at a k ++ known_at a k) (received_at b k ++ known_at b k) (received_at c k ++ known_at c k) (f k) (g k)
 
 -- items without a Done, and one more
 ends_more : (b : Bool) (r : List Item) (x : Item) → is_done x ≡ b → All (λ y. is_done y ≡ false) r → EndsIn b (r ++ x ∷ [])
@@ -114,27 +119,30 @@ inside_received c q lt =
 pub inside_done : (c : Conveyor) (q : ℕ) → q < length (view c).rings → q < length (view c).done
 inside_done c q lt = let r = length-map c.queues.items (ring.rx_ring {T = Item}) in omega (arith, r, lt, c.one_each)
 
--- a poll of the queue q, whatever it gave
-pub sees_polled : (r : Polled) (a b : View) (q : ℕ) → q < length a.received
-    → IfTaken r (λ p x. (p ≡ q) × TookFrom a b q x) → OnNothing r ((b ≡ a) × (known_at a q ≡ [])) → SeesMore a b
-sees_polled (Taken p x) a b q lt t n = sees_took a b q x t.1 lt
-sees_polled Nothing a b q lt t n = sees_same a b n.0
+within_at : (xs : List (List Item)) (q : ℕ) → 0 < length (get_or xs q []) → q < length xs
+within_at [] q h = absurd (omega (arith, h))
+within_at (x ∷ xs) zero h = omega arith
+within_at (x ∷ xs) (suc q) h = let rest = within_at xs q h in omega (arith, rest)
 
-pub closed_polled : (r : Polled) (a b : View) (q : ℕ) → q < length a.received → q < length a.done
-    → IfTaken r (λ p x. (p ≡ q) × TookFrom a b q x) → OnNothing r ((b ≡ a) × (known_at a q ≡ [])) → IsClosed a → IsClosed b
-closed_polled (Taken p x) a b q lt ld t n h = closed_took a b q x t.1 lt ld h
-closed_polled Nothing a b q lt ld t n h = subst IsClosed (sym n.0) h
+-- a queue of which an item is known is one of the queues
+pub has_queue : (c : Conveyor) (q : ℕ) → HasItem (view c) q → q < length (view c).rings
+has_queue c q h =
+    let some = within_at (view c).known q h.some in
+    let r = length-map c.queues.items (ring.rx_ring {T = Item}) in
+    let k = length-map c.queues.items (ring.known_items {T = Item}) in
+    omega (arith, some, r, k)
 
--- a poll of a span of queues after one that gave nothing
-pub sees_span : (r : Polled) (c : Conveyor) (a b : View) (from to : ℕ) → view c ≡ a → to ≤ length (view c).rings
-    → IfTaken r (λ q x. (from ≤ q) × (q < to) × TookFrom (view c) b q x × NoneKnown (view c) from q) → OnNothing r ((b ≡ view c) × NoneKnown (view c) from to) → SeesMore a b
-sees_span (Taken q x) c a b from to e most t n =
-    subst (λ v. SeesMore v b) e (sees_took (view c) b q x t.2 (inside_received c q (omega (arith, t.1, most))))
-sees_span Nothing c a b from to e most t n = sees_same a b (n.0 ∙ e)
+-- the default of a read within the list does not count
+pub open_at : (ds : List Bool) (q : ℕ) (d : Bool) → q < length ds → d ≡ get_or ds q d → d ≡ false → get_or ds q true ≡ false
+open_at [] q d lt is off = absurd (omega (arith, lt))
+open_at (e ∷ ds) zero d lt is off = sym is ∙ off
+open_at (e ∷ ds) (suc q) d lt is off = open_at ds q d (omega (arith, lt)) is off
 
-pub closed_span : (r : Polled) (c : Conveyor) (a b : View) (from to : ℕ) → view c ≡ a → to ≤ length (view c).rings
-    → IfTaken r (λ q x. (from ≤ q) × (q < to) × TookFrom (view c) b q x × NoneKnown (view c) from q) → OnNothing r ((b ≡ view c) × NoneKnown (view c) from to) → IsClosed a → IsClosed b
-closed_span (Taken q x) c a b from to e most t n h =
-    let lt : q < length (view c).rings = omega (arith, t.1, most) in
-    closed_took (view c) b q x t.2 (inside_received c q lt) (inside_done c q lt) (subst IsClosed (sym e) h)
-closed_span Nothing c a b from to e most t n h = subst IsClosed (sym (n.0 ∙ e)) h
+-- after a look at a span of queues, whatever it gave
+pub sees_span : (r : Option ℕ) (a b c : View) (from to : ℕ) → b ≡ a → IfSome r (λ q. (from ≤ q) × (q < to) × Found b c q × NoneKnown b from q) → IfNone r ((c ≡ b) × NoneKnown b from to) → SeesMore a c
+sees_span (Some q) a b c from to e f n = subst (λ v. SeesMore v c) e (sees_found b c q f.2)
+sees_span None a b c from to e f n = sees_same a c (n.0 ∙ e)
+
+-- two first items are the same
+pub same_head : (x y : Item) (xs : List Item) → IsPrefix (x ∷ []) xs → IsPrefix (y ∷ []) xs → x ≡ y
+same_head x y xs f g = cc (f.1, g.1)

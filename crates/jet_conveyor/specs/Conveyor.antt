@@ -43,6 +43,25 @@ pub record IsNew (v : View) (queues : List (Rx Item)) : Type 0 where
   pub done : v.done ≡ replicate (length queues) false
   pub cursor : v.cursor ≡ 0
 
+-- more items of the queue q may be known, since its ends met or its receiver looked, and nothing was sent or taken
+pub record Refreshed (a b : View) (q : ℕ) : Type 0 where
+  pub rings : b.rings ≡ a.rings
+  pub received : b.received ≡ a.received
+  pub others : (k : ℕ) → k ≢ q → known_at b k ≡ known_at a k
+  pub done : b.done ≡ a.done
+  pub cursor : b.cursor ≡ a.cursor
+
+-- the queue is not done, and an item of it is known
+pub record HasItem (v : View) (q : ℕ) : Type 0 where
+  pub is_open : is_done_at v q ≡ false
+  pub some : 0 < length (known_at v q)
+
+-- a look at the queue q found an item, and it may have found several: nothing was taken, and no other queue changes
+pub record Found (a b : View) (q : ℕ) : Type 0 where
+  pub item : HasItem b q
+  pub known : IsPrefix (known_at a q) (known_at b q)
+  pub same : Refreshed a b q
+
 -- the item x was taken from the queue q, which was not done: the first one known there, where one was known
 pub record TookFrom (a b : View) (q : ℕ) (x : Item) : Type 0 where
   pub rings : b.rings ≡ a.rings
@@ -62,14 +81,6 @@ abbrev pub InTurn : View → ℕ → Type 0
 InTurn v q =
     ((v.cursor ≤ q) × NoneKnown v v.cursor q)
     ⊎ ((q < v.cursor) × NoneKnown v v.cursor (length v.rings) × NoneKnown v 0 q)
-
--- both ends of the queue q met, and nothing was sent or taken
-pub record Refreshed (a b : View) (q : ℕ) : Type 0 where
-  pub rings : b.rings ≡ a.rings
-  pub received : b.received ≡ a.received
-  pub others : (k : ℕ) → k ≢ q → known_at b k ≡ known_at a k
-  pub done : b.done ≡ a.done
-  pub cursor : b.cursor ≡ a.cursor
 
 -- what a queue's end has seen, received or not, is never forgotten
 abbrev pub SeesMore : View → View → Type 0

@@ -29,9 +29,11 @@ pub struct Conveyor {
 }
 
 impl Conveyor {
-    ghost use Rattle.std.specs.Prelude.{◌≡◌, ◌≤◌, ◌<◌, ◌↔◌, ◌^◌, ◌+◌, ◌++◌, ◌⊎◌, [], map, false, true, vec_len, length, slice_get, IfOk, IsOk, IsTrue, All};
+    ghost use Rattle.std.specs.Prelude.{◌≡◌, ◌≤◌, ◌<◌, ◌↔◌, ◌^◌, ◌+◌, ◌++◌, ◌⊎◌, [], ◌∷◌, map, false, true, vec_len, length, slice_get, IfOk, IsOk, IfSome, IfNone, IsTrue, IsFalse, All};
+    ghost use mathlib.Core.List.{IsPrefix};
+    ghost use Rattle.jet_items.specs.declared.item.Item.{Item};
     ghost use Rattle.jet_ring.specs.Ring as ring;
-    ghost use Rattle.jet_conveyor.specs.Conveyor.{view, received_at, known_at, is_done_at, IsNew, TookFrom, NoneKnown, InTurn, Refreshed, SeesMore, IsClosed};
+    ghost use Rattle.jet_conveyor.specs.Conveyor.{view, received_at, known_at, is_done_at, IsNew, HasItem, Found, TookFrom, NoneKnown, InTurn, Refreshed, SeesMore, IsClosed};
     ghost use Rattle.jet_conveyor.specs.Polled.{IfTaken, OnNothing};
 
     /// A conveyor over these queues, none of them done: fewer than 2^32, since a queue's number is a `u32`.
@@ -57,11 +59,9 @@ impl Conveyor {
         ensures seen { SeesMore (view self.old) (view self.new) }
         ensures closed { IsClosed (view self.old) → IsClosed (view self.new) }
     {
-        let next = self.next;
-        let count = self.queues.len();
-        match self.poll_span(next, count) {
-            Polled::Taken(q, item) => Polled::Taken(q, item),
-            Polled::Nothing => self.poll_span(0, next),
+        match self.find() {
+            Some(queue) => Polled::Taken(queue, self.take_front(queue)),
+            None => Polled::Nothing,
         }
     }
 
@@ -74,10 +74,51 @@ impl Conveyor {
         ensures seen { SeesMore (view self.old) (view self.new) }
         ensures closed { IsClosed (view self.old) → IsClosed (view self.new) }
     {
-        if self.closed[queue as usize] {
-            return Polled::Nothing;
+        if self.look(queue as usize) {
+            Polled::Taken(queue, self.take_front(queue))
+        } else {
+            Polled::Nothing
         }
-        self.take_from(queue as usize)
+    }
+
+    /// Finds the first queue in turn that has an item, for `front` and `skip`. Nothing is taken, and the turn stays; the
+    /// receiver looks at the other end of a queue only where it knows of no item.
+    pub fn find(&mut self) -> Option<u32>
+        ensures found { IfSome result (λ q. (q < length (view self.old).rings) × Found (view self.old) (view self.new) q) }
+        ensures in_turn { IfSome result (λ q. InTurn (view self.old) q) }
+        ensures nothing { IfNone result (view self.new ≡ view self.old) }
+        ensures cause { IfNone result (NoneKnown (view self.old) 0 (length (view self.old).rings)) }
+        ensures seen { SeesMore (view self.old) (view self.new) }
+        ensures closed { IsClosed (view self.old) → IsClosed (view self.new) }
+    {
+        let next = self.next;
+        let count = self.queues.len();
+        match self.find_span(next, count) {
+            Some(queue) => Some(queue),
+            None => self.find_span(0, next),
+        }
+    }
+
+    /// The next item of a queue that `find` named, lent in its slot of the ring.
+    pub fn front(&self, queue: u32) -> &Item
+        requires { HasItem (view self.now) queue }
+        ensures { IsPrefix (result.now ∷ []) (known_at (view self.now) queue) }
+    {
+        self.queues[queue as usize].front()
+    }
+
+    /// Takes the next item of a queue that `find` named, and drops it.
+    pub fn skip(&mut self, queue: u32)
+        requires { HasItem (view self.old) queue }
+        ensures taken { (x : Item) → IsPrefix (x ∷ []) (known_at (view self.old) queue) → TookFrom (view self.old) (view self.new) queue x }
+        ensures seen { SeesMore (view self.old) (view self.new) }
+        ensures closed { IsClosed (view self.old) → IsClosed (view self.new) }
+    {
+        let done = self.front(queue).is_done();
+        let place = queue as usize;
+        self.queues[place].skip();
+        self.closed[place] = done;
+        self.next = place + 1;
     }
 
     /// Whether every queue is done. It is so where there is none.
@@ -117,35 +158,39 @@ impl Conveyor {
         refresh(tx, &mut self.queues[queue as usize])
     }
 
-    // Takes from one queue, which exists and is not done.
-    fn take_from(&mut self, queue: usize) -> Polled
-        requires exists { queue < length (view self.old).rings }
-        requires was_open { is_done_at (view self.old) queue ≡ false }
-        ensures taken { IfTaken result (λ q x. (q ≡ queue) × TookFrom (view self.old) (view self.new) queue x) }
-        ensures nothing { OnNothing result ((view self.new ≡ view self.old) × (known_at (view self.old) queue ≡ [])) }
+    // Takes the next item of a queue that has one.
+    fn take_front(&mut self, queue: u32) -> Item
+        requires { HasItem (view self.old) queue }
+        ensures taken { TookFrom (view self.old) (view self.new) queue result }
+        ensures seen { SeesMore (view self.old) (view self.new) }
+        ensures closed { IsClosed (view self.old) → IsClosed (view self.new) }
     {
-        let Some(item) = self.queues[queue].take() else {
-            return Polled::Nothing;
-        };
-        self.closed[queue] = item.is_done();
-        self.next = queue + 1;
-        Polled::Taken(queue as u32, item)
+        let item = *self.front(queue);
+        self.skip(queue);
+        item
     }
 
-    // Takes from the first queue in a span that has an item.
-    fn poll_span(&mut self, from: usize, to: usize) -> Polled
+    // Whether a queue is not done and has an item.
+    fn look(&mut self, queue: usize) -> bool
+        requires { queue < length (view self.old).rings }
+        ensures found { IsTrue result → Found (view self.old) (view self.new) queue }
+        ensures nothing { IsFalse result → view self.new ≡ view self.old }
+        ensures cause { IsFalse result → (is_done_at (view self.old) queue ≡ true) ⊎ (known_at (view self.old) queue ≡ []) }
+    {
+        !self.closed[queue] && self.queues[queue].has_item()
+    }
+
+    // Finds the first queue of a span that has an item.
+    fn find_span(&mut self, from: usize, to: usize) -> Option<u32>
         requires { to ≤ length (view self.old).rings }
-        ensures taken { IfTaken result (λ q x. (from ≤ q) × (q < to) × TookFrom (view self.old) (view self.new) q x × NoneKnown (view self.old) from q) }
-        ensures nothing { OnNothing result ((view self.new ≡ view self.old) × NoneKnown (view self.old) from to) }
+        ensures found { IfSome result (λ q. (from ≤ q) × (q < to) × Found (view self.old) (view self.new) q × NoneKnown (view self.old) from q) }
+        ensures nothing { IfNone result ((view self.new ≡ view self.old) × NoneKnown (view self.old) from to) }
     {
         for queue in from..to {
-            if self.closed[queue] {
-                continue;
-            }
-            if let Polled::Taken(q, item) = self.take_from(queue) {
-                return Polled::Taken(q, item);
+            if self.look(queue) {
+                return Some(queue as u32);
             }
         }
-        Polled::Nothing
+        None
     }
 }

@@ -114,3 +114,40 @@ fn one_queue_is_polled_alone(rt: HostRuntime) -> Result<(), Fail> {
     assert!(rt; !conveyor.all_done());
     Ok(())
 }
+
+// The queue that is found, and the line at its front, which stays there.
+fn found(conveyor: &mut Conveyor) -> Option<(u32, u32)> {
+    let queue = conveyor.find()?;
+    let line = match conveyor.front(queue) {
+        Item::Event(event) => line_of(event),
+        _ => 0,
+    };
+    Some((queue, line))
+}
+
+fn skipped(conveyor: &mut Conveyor) -> Option<u32> {
+    let queue = conveyor.find()?;
+    conveyor.skip(queue);
+    Some(queue)
+}
+
+#[test]
+fn an_item_is_found_until_it_is_skipped(rt: HostRuntime) -> Result<(), Fail> {
+    let Made {
+        mut first,
+        mut second,
+        mut conveyor,
+    } = two_queues(rt.alloc()).ok_or("memory")?;
+    assert!(rt; first.put(&event(1).ok_or("key")?));
+    assert!(rt; first.put(&Item::Done));
+    assert!(rt; second.put(&event(2).ok_or("key")?));
+    assert!(rt; conveyor.refresh_queue(0, &mut first).is_ok());
+    assert!(rt; conveyor.refresh_queue(1, &mut second).is_ok());
+    for (queue, line) in [(0, 1), (1, 2), (0, 0)] {
+        assert_eq!(rt; found(&mut conveyor), Some((queue, line)));
+        assert_eq!(rt; found(&mut conveyor), Some((queue, line)));
+        assert_eq!(rt; skipped(&mut conveyor), Some(queue));
+    }
+    assert_eq!(rt; found(&mut conveyor), None);
+    Ok(())
+}

@@ -1,5 +1,5 @@
 -- What one element of a list tells of the list of its parts, for lists of ends.
-use Rattle.std.proofs.Common.{◌≡◌, ◌≢◌, ℕ, ◌<◌, List, map, set, length, get_or, sym, ◌∙◌, ap, arith, subst, ◌∷◌, ◌++◌}
+use Rattle.std.proofs.Common.{◌≡◌, ◌≢◌, ℕ, ◌<◌, List, map, set, length, get_or, sym, ◌∙◌, ap, arith, subst, ◌∷◌, ◌++◌, append_assoc}
 use Rattle.std.proofs.lemmas.List.{map-set, get_or-map, get_or-set_same, get_or-set_other, length-map}
 use mathlib.Core.List.{IsPrefix}
 use Rattle.std.proofs.Math.Seq.{map-set_same}
@@ -33,6 +33,12 @@ pub prefix_along : {A : Type 0} {a c b d : List A} (x : A) → a ≡ c → b ≡
 prefix_along {A} {a} {c} {b} {d} x e h p =
     let P : List A → Type 0 = λ u. IsPrefix u (x ∷ d) in
     let Q : List A → Type 0 = λ u. IsPrefix a (x ∷ u) in subst P e (subst Q h p)
+
+pub prefix_between : {A : Type 0} {a b c d : List A} → a ≡ c → b ≡ d → IsPrefix a b → IsPrefix c d
+prefix_between {A} {a} {b} {c} {d} e h p = let P : List A → Type 0 = λ u. IsPrefix u d in subst P e (subst (λ u. IsPrefix a u) h p)
+
+pub prefix_trans : {A : Type 0} (a b c : List A) → IsPrefix a b → IsPrefix b c → IsPrefix a c
+prefix_trans {A} a b c f g = (f.0 ++ g.0, sym (append_assoc a f.0 g.0) ∙ (ap (λ (w : List A). w ++ g.0) f.1 ∙ g.1))
 
 pub append_along : {A : Type 0} {a b c d s : List A} → a ≡ c → b ≡ d → c ++ d ≡ s → a ++ b ≡ s
 append_along {A} {a} {b} {c} {d} e h p = ap (λ w. w ++ b) e ∙ ap (λ w. c ++ w) h ∙ p

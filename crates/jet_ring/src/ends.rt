@@ -22,7 +22,7 @@ pub struct Rx<T> {
 }
 
 impl<T> Tx<T> {
-    ghost use Rattle.std.specs.Prelude.{◌≡◌, ◌≤◌, ◌+◌, [], ◌∷◌, ◌++◌, length, ◌↔◌, OnOk, IfErr, IsErr};
+    ghost use Rattle.std.specs.Prelude.{◌≡◌, ◌≤◌, ◌+◌, [], ◌∷◌, ◌++◌, length, ◌↔◌, OnOk, IfErr, IsErr, IsTrue, IsFalse};
     ghost use Rattle.rtrb.specs.Ring.{known_free as producer_free, producer_capacity};
     ghost use Rattle.jet_ring.specs.Ring.{sent, known_free, reach, received, known_items, tx_ring, rx_ring, tx_cap, IsPair};
     ghost use mathlib.Core.List.{IsPrefix};
@@ -60,6 +60,25 @@ impl<T> Tx<T> {
         Ok(())
     }
 
+    /// Sends a copy of the item, and answers whether a slot was known to be free for it. The item is lent, and copied
+    /// once, into its slot.
+    pub fn put(&mut self, item: &T) -> bool
+    where
+        T: Copy,
+        ensures ring { tx_ring self.new ≡ tx_ring self.old }
+        ensures sent { IsTrue result → sent self.new ≡ sent self.old ++ item.now ∷ [] }
+        ensures kept { IsFalse result → self.new ≡ self.old }
+        ensures cause { IsFalse result ↔ (known_free self.old ≡ 0) }
+        ensures reach { reach self.new ≡ reach self.old }
+    {
+        let fits = self.free > 0;
+        if fits {
+            self.producer.push_reserved(*item);
+            self.free -= 1;
+        }
+        fits
+    }
+
     // The sender looks first and keeps what it saw, since the receiver's look may tell its producer of more.
     pub(crate) fn meet(&mut self, rx: &mut Rx<T>)
         requires { IsPair self.old rx.old }
@@ -80,7 +99,7 @@ impl<T> Tx<T> {
 }
 
 impl<T> Rx<T> {
-    ghost use Rattle.std.specs.Prelude.{◌≡◌, [], ◌∷◌, ◌++◌, IfSome, IfNone};
+    ghost use Rattle.std.specs.Prelude.{◌≡◌, ◌<◌, ◌↔◌, [], ◌∷◌, ◌++◌, length, IfSome, IfNone, IsTrue, IsFalse};
     ghost use Rattle.jet_ring.specs.Ring.{received, known_items, seen, rx_ring};
     ghost use mathlib.Core.List.{IsPrefix};
 
@@ -101,5 +120,37 @@ impl<T> Rx<T> {
         ensures seen { IsPrefix (seen self.old) (seen self.new) }
     {
         self.consumer.pop().ok()
+    }
+
+    /// Whether an item is known. Where none was, the receiver looks at the other end, and may find what was sent since
+    /// the last meeting, or not yet.
+    pub fn has_item(&mut self) -> bool
+        ensures ring { rx_ring self.new ≡ rx_ring self.old }
+        ensures received { received self.new ≡ received self.old }
+        ensures known { IsPrefix (known_items self.old) (known_items self.new) }
+        ensures answer { IsTrue result ↔ (0 < length (known_items self.new)) }
+        ensures none { IsFalse result → (known_items self.new ≡ []) × (known_items self.old ≡ []) }
+    {
+        !self.consumer.is_empty()
+    }
+
+    /// The oldest item, which stays in its slot: the next that `take` gives or `skip` drops.
+    pub fn front(&self) -> &T
+        requires { 0 < length (known_items self.now) }
+        ensures { IsPrefix (result.now ∷ []) (known_items self.now) }
+    {
+        self.consumer.peek_known()
+    }
+
+    /// Takes the oldest item and drops it, once it was looked at in its slot.
+    pub fn skip(&mut self)
+    where
+        T: Drop,
+        requires { 0 < length (known_items self.old) }
+        ensures ring { rx_ring self.new ≡ rx_ring self.old }
+        ensures taken { (x : T) → IsPrefix (x ∷ []) (known_items self.old) → received self.new ≡ received self.old ++ x ∷ [] }
+        ensures known { (x : T) → IsPrefix (x ∷ []) (known_items self.old) → known_items self.old ≡ x ∷ known_items self.new }
+    {
+        let _ = self.consumer.pop_known();
     }
 }

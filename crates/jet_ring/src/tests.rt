@@ -108,3 +108,20 @@ fn a_take_at_a_meeting_is_exact(rt: HostRuntime) -> Result<(), Fail> {
     assert_eq!(rt; take_at_meeting(&mut tx, &mut rx), None);
     Ok(())
 }
+
+#[test]
+fn an_item_is_lent_in_its_slot(rt: HostRuntime) -> Result<(), Fail> {
+    let (mut tx, mut rx) = ring::<u64>(rt.alloc(), 2).ok().ok_or("memory")?;
+    assert!(rt; !rx.has_item());
+    assert!(rt; tx.put(&7));
+    assert!(rt; tx.put(&8));
+    assert!(rt; !tx.put(&9));
+    let _ = refresh(&mut tx, &mut rx);
+    for number in [7, 8] {
+        assert!(rt; rx.has_item());
+        assert_eq!(rt; *rx.front(), number);
+        rx.skip();
+    }
+    assert!(rt; !rx.has_item());
+    Ok(())
+}

@@ -1,7 +1,8 @@
 // Where an item goes. Data goes by the route; a mark and Done go to each destination.
-ghost use Rattle.std.specs.Prelude.{◌≡◌, length, option_map};
+ghost use Rattle.std.specs.Prelude.{◌≡◌, ℕ, List, None, length, option_map, IsTrue, IsFalse, IsSome};
 ghost use Rattle.jet_items.specs.Partition.{item_key, key_partition};
 ghost use Rattle.jet_router.specs.Aim.{aim_of};
+ghost use Rattle.jet_router.specs.declared.aim.Aim.TheVariants.{Each};
 
 use jet_items::{Item, partition_of};
 
@@ -45,17 +46,37 @@ fn partition_for(item: &Item) -> Option<u32>
     }
 }
 
-/// Where an item goes; a partitioned route has a table of the destinations of the 271 partitions.
+// Whether an item has no key: a mark or the end.
+fn has_no_key(item: &Item) -> bool
+    ensures told { IsTrue result → item_key item.now ≡ None }
+    ensures data { IsFalse result → IsSome (item_key item.now) }
+{
+    matches!(item, Item::Mark(_) | Item::Done)
+}
+
+/// Whether an item goes to each destination.
+pub(crate) fn goes_to_each(route: Route, item: &Item) -> bool
+    ensures each { IsTrue result → ((table : List ℕ) → aim_of route table (item_key item.now) ≡ Each) }
+    ensures one { IsFalse result → ((table : List ℕ) → aim_of route table (item_key item.now) ≡ Each → ⊥) }
+{
+    has_no_key(item) || matches!(route, Route::Broadcast)
+}
+
+/// Where an item goes; a partitioned route has a table of the destinations of the 271 partitions. The partition of its
+/// key is reckoned for such a route alone.
 pub(crate) fn aim_for(route: Route, table: &[u32], item: &Item) -> Aim
     requires { route ≡ Route.Partitioned → length table.now ≡ 271 }
     ensures { result ≡ aim_of route table.now (item_key item.now) }
 {
-    let Some(partition) = partition_for(item) else {
+    if has_no_key(item) {
         return Aim::Each;
-    };
+    }
     match route {
         Route::Unicast => Aim::Any,
         Route::Broadcast => Aim::Each,
-        Route::Partitioned => Aim::Only(table[partition as usize] as usize),
+        Route::Partitioned => match partition_for(item) {
+            Some(partition) => Aim::Only(table[partition as usize] as usize),
+            None => Aim::Each,
+        },
     }
 }

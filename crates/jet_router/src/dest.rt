@@ -18,7 +18,7 @@ impl Dest {
         ensures after { dest_view self.new ≡ served item.now (dest_view self.old) }
         ensures value { result ≡ (dest_view self.new).had }
     {
-        if !self.had && self.tx.offer(*item).is_ok() {
+        if !self.had && self.tx.put(item) {
             self.had = true;
         }
         self.had

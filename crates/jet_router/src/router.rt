@@ -7,7 +7,7 @@ ghost use Rattle.jet_router.specs.Dest.{dest_view, fresh};
 ghost use Rattle.jet_router.specs.declared.aim.Route.TheVariants.{Partitioned};
 
 use crate::Given;
-use crate::aim::{Aim, Route, aim_for};
+use crate::aim::{Aim, Route, aim_for, goes_to_each};
 use crate::dest::Dest;
 use jet_items::{Item, NoMemory};
 use jet_ring::{Rx, Tx, refresh};
@@ -43,7 +43,7 @@ impl Router {
     ghost use Rattle.jet_router.specs.Gives.{Gives};
     ghost use Rattle.jet_router.specs.Deals.{Deal, Dealt, DealtAfter, IsFull};
     ghost use Rattle.jet_router.specs.declared.Given.TheVariants.{All as GivenAll, Again};
-    ghost use Rattle.jet_router.specs.declared.aim.Aim.TheVariants.{Any, Only};
+    ghost use Rattle.jet_router.specs.declared.aim.Aim.TheVariants.{Each, Any, Only};
 
     /// A router that gives each data item to one destination that takes it.
     pub fn unicast(alloc: Global, dests: Vec<Tx<Item>>) -> Result<Router, NoMemory>
@@ -141,6 +141,15 @@ impl Router {
             Aim::Any => self.give_any(item),
             Aim::Only(dest) => self.give_only(dest, item),
         }
+    }
+
+    /// Whether the item goes to each destination, so that a gift may send it to some alone. What goes to one destination
+    /// was sent exactly where the answer is `All`.
+    pub fn gives_to_each(&self, item: &Item) -> bool
+        ensures each { IsTrue result → aim_at (view self.now) item.now ≡ Each }
+        ensures one { IsFalse result → aim_at (view self.now) item.now ≡ Each → ⊥ }
+    {
+        goes_to_each(self.route, item)
     }
 
     /// A meeting of the two ends of one destination's ring, for a caller who has the other end in hand.
@@ -272,13 +281,11 @@ impl Router {
         ensures same { SameRouter (view self.old) (view self.new) }
         ensures reach { reaches (view self.new) ≡ reaches (view self.old) }
     {
-        match self.dests[dest].tx.offer(*item) {
-            Ok(()) => {
-                self.turn = dest + 1;
-                true
-            }
-            Err(_) => false,
+        if !self.dests[dest].tx.put(item) {
+            return false;
         }
+        self.turn = dest + 1;
+        true
     }
 
     // Offers the item to the destinations of a span, until one takes it.

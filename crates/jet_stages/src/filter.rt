@@ -74,11 +74,11 @@ impl Processor for FilterP {
         if self.drops(item) {
             return Ok(true);
         }
-        Ok(put(out, *item))
+        Ok(put(out, item))
     }
 
     fn mark(&mut self, mark: Mark, out: &mut Outbox) -> Result<bool, NoMemory> {
-        Ok(put(out, Item::Mark(mark)))
+        Ok(put(out, &Item::Mark(mark)))
     }
 
     fn close_queue(&mut self, port: Port, queue: u32, out: &mut Outbox) -> bool

@@ -86,12 +86,12 @@ impl Processor for FlatP {
     ) -> Result<bool, NoMemory> {
         match item {
             Item::Event(event) => Ok(self.give_legs(event, out)),
-            other => Ok(put(out, *other)),
+            other => Ok(put(out, other)),
         }
     }
 
     fn mark(&mut self, mark: Mark, out: &mut Outbox) -> Result<bool, NoMemory> {
-        Ok(put(out, Item::Mark(mark)))
+        Ok(put(out, &Item::Mark(mark)))
     }
 
     fn close_queue(&mut self, port: Port, queue: u32, out: &mut Outbox) -> bool

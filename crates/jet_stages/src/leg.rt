@@ -49,7 +49,7 @@ impl Leg {
         ensures full { result ≡ false → length out.old.items ≡ out.old.room }
     {
         if self.test.test(event) {
-            return put(out, Item::Event(self.made(event)));
+            return put(out, &Item::Event(self.made(event)));
         }
         true
     }

@@ -99,11 +99,11 @@ impl Processor for MapP {
         item: &Item,
         out: &mut Outbox,
     ) -> Result<bool, NoMemory> {
-        Ok(put(out, self.turned(item)))
+        Ok(put(out, &self.turned(item)))
     }
 
     fn mark(&mut self, mark: Mark, out: &mut Outbox) -> Result<bool, NoMemory> {
-        Ok(put(out, Item::Mark(mark)))
+        Ok(put(out, &Item::Mark(mark)))
     }
 
     fn close_queue(&mut self, port: Port, queue: u32, out: &mut Outbox) -> bool

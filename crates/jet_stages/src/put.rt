@@ -4,14 +4,11 @@ ghost use Rattle.std.specs.Prelude.{◌≡◌, true, false, [], ◌∷◌, ◌++
 use jet_boxes::Outbox;
 use jet_items::Item;
 
-// Whether the item had room, and then puts it.
-pub fn put(out: &mut Outbox, item: Item) -> bool
-    ensures put { result ≡ true → out.new ≡ record out.old { items = out.old.items ++ item ∷ [] } }
+// Whether the item had room, and then puts a copy of it.
+pub fn put(out: &mut Outbox, item: &Item) -> bool
+    ensures put { result ≡ true → out.new ≡ record out.old { items = out.old.items ++ item.now ∷ [] } }
     ensures kept { result ≡ false → out.new ≡ out.old }
     ensures full { result ≡ false → length out.old.items ≡ out.old.room }
 {
-    match out.offer(item) {
-        Ok(()) => true,
-        Err(_) => false,
-    }
+    out.put(item)
 }

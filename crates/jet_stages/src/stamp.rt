@@ -105,7 +105,7 @@ impl Stamp {
         ensures waits { result ≡ false → (self.new ≡ self.old) × (out.new ≡ out.old) × (length out.old.items ≡ out.old.room) × IsSome self.old.owed }
     {
         if let Some(mark) = self.owed {
-            if !put(out, Item::Mark(mark)) {
+            if !put(out, &Item::Mark(mark)) {
                 return false;
             }
             self.owed = None;
@@ -122,7 +122,7 @@ fn pass_on(out: &mut Outbox, item: &Item) -> bool
 {
     match item {
         Item::Idle => true,
-        other => put(out, *other),
+        other => put(out, other),
     }
 }
 

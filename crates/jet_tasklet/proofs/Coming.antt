@@ -21,7 +21,7 @@ use Rattle.jet_tasklet.specs.declared.step.Step.{Step}
 use Rattle.jet_tasklet.specs.Trace.{same_port, is_from, of_queue, has_ended, histories, heard}
 use Rattle.jet_tasklet.specs.InOrder.{InOrder, MayFollow}
 use Rattle.jet_tasklet.specs.Inputs.{InputView, of_port, rings, received, dones, queue_count, all_done}
-use Rattle.jet_tasklet.specs.Taking.{Took}
+use Rattle.jet_tasklet.specs.Taking.{OpenQueue, Took}
 use Rattle.jet_tasklet.specs.Keeps.{Came, IsEven, IsBuild}
 use Rattle.jet_tasklet.specs.inner.Noting.{Notes}
 use Rattle.jet_tasklet.proofs.Ports.{count_next, count_take}
@@ -93,6 +93,27 @@ done_known zero f q lt = absurd (omega (arith, lt))
 done_known (suc n) f zero lt = refl
 done_known (suc n) f (suc q) lt = done_known n (λ k. f (suc k)) q (omega (arith, lt))
 
+-- the coalescer has as many queues as the stream
+pub heard_all : (vs : List InputView) (co : Coalescer) (came : List Arrival) → Came vs co came → length co.queues ≡ queue_count Stream vs
+heard_all vs co came h = ap (λ (qs : List Queue). length qs) h.heard_is.queues_are ∙ (length-map (heard (queue_count Stream vs) came) known ∙ length_histories (queue_count Stream vs) (λ q. of_queue Stream q came))
+
+-- a queue that is not done
+module _ (vs : List InputView) (port : Port) (q : ℕ) (o : OpenQueue vs port q) where
+  pub open_count : q < queue_count port vs
+  open_count =
+      let next = count_next port vs o.place o.was o.inside o.at in
+      let all : length (cond (same_port o.was.port port) o.was.queues.rings []) ≡ length o.was.queues.rings = ap (λ (b : Bool). length (cond b o.was.queues.rings [])) o.to_port in
+      let most = count_take port vs (suc o.place) in
+      let is = o.queue_is in
+      let lt = o.is_queue in
+      omega (arith, next, all, most, is, lt)
+
+  -- no Done came of it
+  pub open_yet : (co : Coalescer) (came : List Arrival) → Came vs co came → has_ended (of_queue port q came) ≡ false
+  open_yet co came h =
+      let even : Each (λ u. length u.queues.done ≡ length u.queues.rings) vs = Each-more IsEven (λ (u : InputView). length u.queues.done ≡ length u.queues.rings) (λ u e. e.done) vs h.even in
+      sym (h.done_is port q open_count) ∙ (of_port_get (λ v. v.done) port vs o.place o.was o.within q true even o.inside o.at o.to_port o.is_queue o.queue_is ∙ o.is_open)
+
 module _ (before after : List InputView) (a : Arrival) (t : Took before after a.port a) where
   abbrev P : Port
   P = a.port
@@ -115,14 +136,21 @@ module _ (before after : List InputView) (a : Arrival) (t : Took before after a.
       ap (λ (vs : List InputView). of_port f port vs) after_eq
       ∙ of_port_same f port before t.place t.was t.now t.inside t.at (λ e. absurd (let p : t.was.port ≡ P = port_is t.was.port P to in let q : same_port P port ≡ true = subst (λ (w : Port). same_port w port ≡ true) p e in cc (q, away)))
 
+  open_queue : OpenQueue before P a.queue
+  open_queue = record {
+    place = t.place;
+    within = t.within;
+    was = t.was;
+    inside = t.inside;
+    at = t.at;
+    to_port = to;
+    queue_is = t.queue_is;
+    is_queue = t.is_queue;
+    is_open = t.took.was_open;
+  }
+
   pub within_count : a.queue < queue_count P before
-  within_count =
-      let next = count_next P before t.place t.was t.inside t.at in
-      let all : length (cond (same_port t.was.port P) t.was.queues.rings []) ≡ length t.was.queues.rings = ap (λ (b : Bool). length (cond b t.was.queues.rings [])) to in
-      let most = count_take P before (suc t.place) in
-      let is = t.queue_is in
-      let lt = t.is_queue in
-      omega (arith, next, all, most, is, lt)
+  within_count = open_count before P a.queue open_queue
 
   evens : Each IsEven before → Each IsEven after
   evens h =
@@ -148,7 +176,7 @@ module _ (before after : List InputView) (a : Arrival) (t : Took before after a.
     even_done = Each-more IsEven (λ (u : InputView). length u.queues.done ≡ length u.queues.rings) (λ u e. e.done) before h.even
 
     pub was_open : has_ended (of_queue P a.queue came) ≡ false
-    was_open = sym (h.done_is P a.queue within_count) ∙ (at_queue (λ v. v.done) true even_done ∙ t.took.was_open)
+    was_open = open_yet before P a.queue open_queue co came h
 
     received_here : (q : ℕ) → q < queue_count P before → get_or (received P after) q [] ≡ of_queue P q (came ++ a ∷ [])
     received_here q lt =
@@ -194,7 +222,7 @@ module _ (before after : List InputView) (a : Arrival) (t : Took before after a.
         ]
 
     pub heard_count : length co.queues ≡ queue_count Stream before
-    heard_count = ap (λ (qs : List Queue). length qs) h.heard_is.queues_are ∙ (length-map (heard (queue_count Stream before) came) known ∙ length_histories (queue_count Stream before) (λ q. of_queue Stream q came))
+    heard_count = heard_all before co came h
 
     -- the queue may be told of
     pub may_note : a.port ≡ Stream → (a.queue < length co.queues) × (is_done_at co a.queue ≡ false)

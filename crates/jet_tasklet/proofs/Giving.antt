@@ -1,7 +1,6 @@
 -- An output that was given an item.
 use Rattle.std.proofs.Common.{◌≡◌, Bool, true, false, cond, List, [], ◌∷◌, ◌++◌, map, refl, sym, ◌∙◌, ap, subst, append-nil, append_assoc, inl, inr}
-use Rattle.std.specs.Prelude.{All, Option, Some, None, slice_get, IsNone, IfSome}
-use Rattle.jet_boxes.specs.Held.{BoxView}
+use Rattle.std.specs.Prelude.{All, Some, slice_get}
 use Rattle.std.proofs.lemmas.List.Elements.{All-head, All-tail, All-cons, All-nil}
 use Rattle.std.proofs.lemmas.List.{map-append}
 use Rattle.jet_items.specs.declared.item.Item.{Item}
@@ -115,7 +114,3 @@ giving_exists xs ys os ps f g = let one = f g.0 g.1 in (g.0 ++ one.0, one.2)
 pub front_is : (items : List Item) (x : Item) → Some x ≡ slice_get items 0 → (xs : List Item) × (items ≡ x ∷ xs)
 front_is [] x h = absurd (cc)
 front_is (y ∷ ys) x h = let e : x ≡ y = cc in (ys, ap (λ (z : Item). z ∷ ys) (sym e))
-
-pub popped : (r : Option Item) (old new : BoxView) (x : Item) (xs : List Item) → (IsNone r → old.items ≡ []) → IfSome r (λ y. old ≡ record { room = new.room; items = y ∷ new.items }) → old.items ≡ x ∷ xs → new.items ≡ xs
-popped None old new x xs none some is = absurd (let e : old.items ≡ [] = none refl in cc)
-popped (Some y) old new x xs none some is = let e : y ∷ new.items ≡ x ∷ xs = sym (ap (λ (h : BoxView). h.items) some) ∙ is in cc

@@ -36,7 +36,8 @@ use Rattle.jet_tasklet.specs.inner.Leaving.{Leaves, IsStopped}
 use Rattle.jet_tasklet.specs.Turning.{rank, rank_of, Worked}
 use Rattle.jet_tasklet.specs.Keeps.{Came, IsLawful, Stays, Goes, entered}
 use mathlib.Core.List.{IsPrefix}
-use Rattle.jet_tasklet.proofs.Lasting.{prefix_refl, prefix_trans}
+use Rattle.jet_ring.proofs.Lists.{prefix_trans}
+use Rattle.jet_tasklet.proofs.Lasting.{prefix_refl}
 use Rattle.jet_tasklet.proofs.Pushing.{entries-push}
 use Rattle.jet_tasklet.proofs.Coming.{came_push, was_open, within_count, count_stays, heard_count}
 use Rattle.jet_tasklet.proofs.Giving.{giving_more}
@@ -197,7 +198,7 @@ module _ {P : Type 0} (stands : P → List CallEntry → List Item → Type 0) (
   }
 
   -- what an item asks is owed next
-  working_next : (p : P) (n : ℕ) (came : List Arrival) (a : Arrival) (next : Step) (given : List Item) → owed next ≡ asks n came a → finale next ≡ [] → stands p (entries n came) given → takes p a.port a.queue → has_ended (of_queue a.port a.queue came) ≡ false → Working stands amid takes p next (told next n (came ++ a ∷ [])) given
+  pub working_next : (p : P) (n : ℕ) (came : List Arrival) (a : Arrival) (next : Step) (given : List Item) → owed next ≡ asks n came a → finale next ≡ [] → stands p (entries n came) given → takes p a.port a.queue → has_ended (of_queue a.port a.queue came) ≡ false → Working stands amid takes p next (told next n (came ++ a ∷ [])) given
   working_next p n came a step.Poll given asked goes h may still =
       let es : entries n (came ++ a ∷ []) ++ [] ≡ entries n came = append-nil (entries n (came ++ a ∷ [])) ∙ (entries-push n came a ∙ (ap (λ (xs : List CallEntry). entries n came ++ xs) (sym asked) ∙ append-nil (entries n came))) in
       subst (λ (xs : List CallEntry). stands p xs given) (sym es) h
@@ -257,6 +258,10 @@ module _ {P : Type 0} (stands : P → List CallEntry → List Item → Type 0) (
 
   pub goes_refl : (a : Tasklet P) → Goes stands amid takes a a
   goes_refl a = goes_stays a a (stays_refl a) (prefix_refl a.outbox.items)
+
+  -- the outbox is as it was
+  pub goes_same : (a b : Tasklet P) → Stays stands amid takes a b → b.outbox ≡ a.outbox → Goes stands amid takes a b
+  goes_same a b f same = goes_stays a b f (subst (λ (h : BoxView). IsPrefix a.outbox.items h.items) (sym same) (prefix_refl a.outbox.items))
 
   pub goes_came : (a b : Tasklet P) (more : List Arrival) → b.outbox ≡ a.outbox → ((came : List Arrival) (gave : List Item) → Keeps stands amid takes a came gave → Keeps stands amid takes b (came ++ more) gave) → Goes stands amid takes a b
   goes_came a b more same f = record {

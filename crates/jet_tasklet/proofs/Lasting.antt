@@ -1,7 +1,8 @@
 -- What lasts of inputs and outputs, from one turn to the next.
-use Rattle.std.proofs.Common.{◌≡◌, ℕ, zero, suc, ◌<◌, List, [], ◌∷◌, ◌++◌, map, length, get_or, set, refl, sym, ◌∙◌, ap, subst, append-nil, append_assoc, arith}
+use Rattle.std.proofs.Common.{◌≡◌, ℕ, zero, suc, ◌<◌, List, [], ◌∷◌, ◌++◌, map, length, get_or, set, refl, sym, ◌∙◌, subst, append-nil, arith}
 use Rattle.std.specs.List.{AllZip}
 use mathlib.Core.List.{IsPrefix}
+use Rattle.jet_ring.proofs.Lists.{prefix_trans}
 use Rattle.jet_items.specs.declared.item.Item.{Item}
 use Rattle.jet_conveyor.specs.Conveyor.{View, received_at, known_at, TookFrom, SeesMore}
 use Rattle.jet_router.specs.Router as router
@@ -16,9 +17,6 @@ use Rattle.jet_tasklet.specs.Turned.{InputGoes, OutputGoes, Turned}
 -- ---- fronts
 pub prefix_refl : {X : Type 0} (xs : List X) → IsPrefix xs xs
 prefix_refl xs = ([], append-nil xs)
-
-pub prefix_trans : {X : Type 0} (xs ys zs : List X) → IsPrefix xs ys → IsPrefix ys zs → IsPrefix xs zs
-prefix_trans {X} xs ys zs f g = (f.0 ++ g.0, sym (append_assoc xs f.0 g.0) ∙ (ap (λ (w : List X). w ++ g.0) f.1 ∙ g.1))
 
 -- one list of several goes on
 set_more : (xs : List (List Item)) (d k : ℕ) (x : Item) → IsPrefix (get_or xs k []) (get_or (set xs d (get_or xs d [] ++ x ∷ [])) k [])

@@ -32,6 +32,7 @@ pub mod Pushing
 pub mod Rows
 pub mod Sending
 pub mod Sounding
+mod Spots
 pub mod StampFronts
 pub mod StampRests
 pub mod Stepping

@@ -51,7 +51,7 @@ module _ (vs ws : List InputView) (a : IsAlike vs ws) where
   count_alike : (port : Port) → queue_count port ws ≡ queue_count port vs
   count_alike port = ap (λ rs. length rs) (a.rings_same port)
 
-  done_alike : (port : Port) → all_done port ws ≡ all_done port vs
+  pub done_alike : (port : Port) → all_done port ws ≡ all_done port vs
   done_alike port = ap (λ ds. list_all (λ d. d) ds) (a.dones_same port)
 
   came_alike : (co : Coalescer) (came : List Arrival) → Came vs co came → Came ws co came

@@ -17,6 +17,8 @@ use Rattle.jet_router.specs.declared.router.Router.{Router}
 use Rattle.jet_router.specs.Router as router
 use Rattle.jet_router.specs.Router.{View}
 use Rattle.jet_router.specs.Dest.{DestView, settled_by}
+use Rattle.jet_router.specs.declared.aim.Aim.{Aim}
+use Rattle.jet_router.specs.declared.aim.Aim.TheVariants as aims
 use Rattle.jet_router.specs.Gives.{Gives}
 use Rattle.jet_router.specs.Deals.{IsStuck}
 use Rattle.jet_tasklet.specs.declared.output.Output.{Output}
@@ -150,6 +152,14 @@ module _ (a b : View) where
   given_waits given.Again Unicast table (Some key) x had same g o = inr (waits_still had g.0 o)
   given_waits given.Again Broadcast table (Some key) x had same g o = inr (owes_still x had same g o)
   given_waits given.Again Partitioned table (Some key) x had same g o = inr (waits_still had g.0 o)
+
+  -- what goes to one destination was sent exactly where it was given whole
+  pub gift_says : (r : Given) (w : Aim) (x : Item) → (w ≡ aims.Each → ⊥) → Gives w r a b x → Says (is_all r) (router.sent_count a) (router.sent_count b)
+  gift_says r aims.Each x no_each g = absurd (no_each refl)
+  gift_says given.All aims.Any x no_each g = sent_to g.0 x g.1
+  gift_says given.All (aims.Only d) x no_each g = sent_to d x g
+  gift_says given.Again aims.Any x no_each g = ap (λ (v : router.View). router.sent_count v) g.0
+  gift_says given.Again (aims.Only d) x no_each g = ap (λ (v : router.View). router.sent_count v) g.0
 
 pub says_true : (p : Bool) (m n : ℕ) → Says p m n → m < n → p ≡ true
 says_true true m n h lt = refl

@@ -1,5 +1,5 @@
 // The call that is pending.
-ghost use Rattle.std.specs.Prelude.{OnErr};
+ghost use Rattle.std.specs.Prelude.{◌≡◌, true, false, Ok, OnErr};
 ghost use Rattle.jet_boxes.specs.Calls.{Call, MayCall};
 ghost use Rattle.jet_tasklet.specs.Steps.{entry_of};
 ghost use Rattle.jet_tasklet.specs.Wanting.{MayWant};
@@ -26,4 +26,12 @@ pub(crate) fn call<P: Processor>(
         Pending::Tell(mark) => processor.mark(*mark, out),
         Pending::Finish => processor.finish(out),
     }
+}
+
+/// Whether a call has ended: its entry was wholly taken.
+pub(crate) fn has_ended(made: &Result<bool, NoMemory>) -> bool
+    ensures yes { result ≡ true → made.now ≡ Ok true }
+    ensures none { result ≡ false → made.now ≡ Ok true → ⊥ }
+{
+    matches!(made, Ok(true))
 }

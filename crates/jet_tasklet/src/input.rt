@@ -1,13 +1,12 @@
 // Inputs: conveyors with the ports that they lead to.
-ghost use Rattle.std.specs.Prelude.{◌≡◌, ◌<◌, length};
+ghost use Rattle.std.specs.Prelude.{◌≡◌, ◌<◌, length, IfSome, IfNone};
 ghost use Rattle.std.specs.List.{list_all};
-ghost use Rattle.jet_conveyor.specs.Conveyor.{TookFrom, SeesMore, NoneKnown};
-ghost use Rattle.jet_conveyor.specs.Polled.{IfTaken, OnNothing};
+ghost use Rattle.jet_conveyor.specs.Conveyor.{Found, SeesMore, NoneKnown};
 ghost use Rattle.jet_tasklet.specs.Inputs.{input_view};
 ghost use Rattle.jet_tasklet.specs.Trace.{same_port};
 
 use jet_boxes::Port;
-use jet_conveyor::{Conveyor, Polled};
+use jet_conveyor::Conveyor;
 
 /// The queues of one edge, and the port that they lead to.
 #[derive(Drop)]
@@ -34,14 +33,14 @@ impl Input {
         self.conveyor.all_done()
     }
 
-    // Takes the next item of the first queue in turn that has one.
-    pub(crate) fn poll(&mut self) -> Polled
+    // Finds the first queue in turn that has an item.
+    pub(crate) fn find(&mut self) -> Option<u32>
         ensures port { self.new.port ≡ self.old.port }
-        ensures taken { IfTaken result (λ q x. (q < length (input_view self.old).queues.rings) × TookFrom (input_view self.old).queues (input_view self.new).queues q x) }
-        ensures nothing { OnNothing result (input_view self.new ≡ input_view self.old) }
-        ensures cause { OnNothing result (NoneKnown (input_view self.old).queues 0 (length (input_view self.old).queues.rings)) }
+        ensures found { IfSome result (λ q. (q < length (input_view self.old).queues.rings) × Found (input_view self.old).queues (input_view self.new).queues q) }
+        ensures nothing { IfNone result (input_view self.new ≡ input_view self.old) }
+        ensures cause { IfNone result (NoneKnown (input_view self.old).queues 0 (length (input_view self.old).queues.rings)) }
         ensures seen { SeesMore (input_view self.old).queues (input_view self.new).queues }
     {
-        self.conveyor.poll()
+        self.conveyor.find()
     }
 }

@@ -1,5 +1,6 @@
 // What an item asks of the processor.
-ghost use Rattle.std.specs.Prelude.{◌≡◌, ◌<◌, false, List, ◌∷◌, [], ◌++◌, length};
+ghost use Rattle.std.specs.Prelude.{◌≡◌, ◌<◌, true, false, List, ◌∷◌, [], ◌++◌, length};
+ghost use Rattle.jet_boxes.specs.Entry.{IsData};
 ghost use Rattle.jet_boxes.specs.declared.port.Port.TheVariants.{Stream};
 ghost use Rattle.jet_coalescer.specs.Low.{HasHeard};
 ghost use Rattle.jet_coalescer.specs.Queues.{is_done_at};
@@ -41,6 +42,13 @@ fn end(coalescer: &mut Coalescer, port: Port, queue: u32) -> Option<Mark>
         Port::Stream => raised_to(coalescer.done(queue)),
         Port::Build => None,
     }
+}
+
+/// Whether an item is handed to the processor as it is.
+pub(crate) fn is_data(item: &Item) -> bool
+    ensures yes { result ≡ true → IsData item.now }
+{
+    !matches!(item, Item::Mark(_) | Item::Done)
 }
 
 /// Takes note of an item that came, and answers the call that it asks for.

@@ -30,6 +30,23 @@ impl Output {
         if self.had {
             return false;
         }
+        if self.router.gives_to_each(item) {
+            return self.give_to_each(item);
+        }
+        self.had = matches!(self.router.give(item), Given::All);
+        self.had
+    }
+
+    // Gives an item that goes to each destination, of which some may take it now: the free slots tell.
+    fn give_to_each(&mut self, item: &Item) -> bool
+        requires gift { (gave : List Item) × InGift gave item.now (output_view self.old) }
+        requires waits { (output_view self.old).had ≡ false }
+        ensures gives { (gave : List Item) → InGift gave item.now (output_view self.old) → InGift gave item.now (output_view self.new) }
+        ensures goes { OutputGoes (output_view self.old) (output_view self.new) }
+        ensures full { (output_view self.new).had ≡ false → IsFull (output_view self.new).router item.now }
+        ensures waits { Waits (output_view self.old) → (result ≡ true) ⊎ Waits (output_view self.new) }
+        ensures pushed { Says result (sent_count (output_view self.old).router) (sent_count (output_view self.new).router) }
+    {
         let free = self.router.free();
         self.had = matches!(self.router.give(item), Given::All);
         self.router.free() != free

@@ -83,8 +83,7 @@ fn give_front(outputs: &mut [Output], outbox: &mut Outbox) -> Fate
             pushed: false,
         };
     };
-    let item = *front;
-    let pushed = give_each(outputs, &item);
+    let pushed = give_each(outputs, front);
     if !have_all(outputs) {
         return Fate {
             left: false,
@@ -92,7 +91,7 @@ fn give_front(outputs: &mut [Output], outbox: &mut Outbox) -> Fate
         };
     }
     clear(outputs);
-    let _ = outbox.pop();
+    outbox.skip();
     Fate { left: true, pushed }
 }
 

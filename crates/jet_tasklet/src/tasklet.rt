@@ -1,5 +1,5 @@
 // A tasklet over any processor.
-ghost use Rattle.std.specs.Prelude.{◌≡◌, ◌↔◌, ◌⊎◌, ℕ, Bool, ◌<◌, ◌≤◌, ◌+◌, List, [], ◌∷◌, ◌++◌, true, false, ◌^◌, map, length, get_or, Ok, IfOk, OnErr};
+ghost use Rattle.std.specs.Prelude.{◌≡◌, ◌↔◌, ◌⊎◌, ℕ, Bool, ◌<◌, ◌≤◌, ◌+◌, List, [], ◌∷◌, ◌++◌, true, false, ◌^◌, map, length, get_or, Ok, IfOk, IfSome, IfNone, OnErr};
 ghost use Rattle.jet_items.specs.declared.item.Item.{Item};
 ghost use Rattle.jet_boxes.specs.Calls.{Call, MayCall};
 ghost use Rattle.jet_tasklet.specs.declared.arrival.Arrival.{Arrival};
@@ -7,9 +7,9 @@ ghost use Rattle.jet_tasklet.specs.declared.step.Step.TheVariants as step;
 ghost use Rattle.jet_tasklet.specs.declared.progress.Progress.TheVariants as progress;
 ghost use Rattle.jet_tasklet.specs.Steps.{entry_of, next_of};
 
-use crate::call::call;
-use crate::inputs::{count_queues, have_ended, poll};
-use crate::note::note;
+use crate::call::{call, has_ended};
+use crate::inputs::{Spot, arrival_at, count_queues, find, front, have_ended, skip};
+use crate::note::{is_data, note};
 use crate::output::Output;
 use crate::outputs::{give_out, over};
 use crate::step::{Pending, Step};
@@ -43,7 +43,8 @@ impl<P: Processor> Tasklet<P> {
     ghost use Rattle.jet_router.specs.Router.{view};
     ghost use Rattle.jet_items.specs.Order.{Each};
     ghost use Rattle.jet_boxes.specs.declared.port.Port.{Port};
-    ghost use Rattle.jet_tasklet.specs.Taking.{NoneToTake};
+    ghost use Rattle.jet_tasklet.specs.Taking.{NoneToTake, IsNext, Stands};
+    ghost use Rattle.jet_boxes.specs.Entry.{IsData};
     ghost use Rattle.jet_items.specs.Order.{Sound, Closed as ClosedItems};
     ghost use Rattle.jet_boxes.specs.Entry.{CallEntry, items_of};
     ghost use Rattle.jet_boxes.specs.declared.port.Port.TheVariants.{Stream, Build};
@@ -94,24 +95,82 @@ impl<P: Processor> Tasklet<P> {
     }
 
     // Takes an item, and answers whether there was one.
-    fn take(&mut self) -> bool
+    fn take(&mut self) -> Result<bool, NoMemory>
         requires free { self.old.step ≡ step.Poll }
         requires keeps { IsLawful P.stands P.amid P.takes self.old }
         ensures keeps { Goes P.stands P.amid P.takes self.old self.new }
         ensures turned { Turned P.same self.old self.new }
-        ensures took { Says result (received_count (inputs_view self.old.inputs.items)) (received_count (inputs_view self.new.inputs.items)) }
+        ensures wants { OnErr result (P.frugal ≡ false) }
+        ensures pending { OnErr result (IsWanting self.new.step) }
+        ensures took { IfOk result (λ took. Says took (received_count (inputs_view self.old.inputs.items)) (received_count (inputs_view self.new.inputs.items))) }
         ensures few { received_count (inputs_view self.new.inputs.items) ≤ received_count (inputs_view self.old.inputs.items) + 1 }
         ensures outputs { self.new.outputs ≡ self.old.outputs }
-        ensures same { result ≡ false → Stays P.stands P.amid P.takes self.old self.new }
-        ensures none { result ≡ false → Worked self.old self.new × (self.new.step ≡ step.Poll) × NoneToTake (inputs_view self.new.inputs.items) }
+        ensures same { result ≡ Ok false → Stays P.stands P.amid P.takes self.old self.new }
+        ensures none { result ≡ Ok false → Worked self.old self.new × (self.new.step ≡ step.Poll) × NoneToTake (inputs_view self.new.inputs.items) }
     {
-        match poll(&mut self.inputs) {
-            None => false,
-            Some(arrival) => {
-                self.step = note(&mut self.coalescer, arrival);
-                true
-            }
+        let Some(spot) = self.find() else {
+            return Ok(false);
+        };
+        if is_data(front(&self.inputs, &spot)) {
+            self.hand_over(&spot)?;
+        } else {
+            self.note_front(&spot);
         }
+        Ok(true)
+    }
+
+    // Finds the next item.
+    fn find(&mut self) -> Option<Spot>
+        requires keeps { IsLawful P.stands P.amid P.takes self.old }
+        ensures keeps { Stays P.stands P.amid P.takes self.old self.new }
+        ensures turned { Turned P.same self.old self.new }
+        ensures rest { self.new ≡ record self.old { inputs = self.new.inputs } }
+        ensures count { received_count (inputs_view self.new.inputs.items) ≡ received_count (inputs_view self.old.inputs.items) }
+        ensures spot { IfSome result (λ s. IsNext (inputs_view self.new.inputs.items) s) }
+        ensures none { IfNone result ((inputs_view self.new.inputs.items ≡ inputs_view self.old.inputs.items) × NoneToTake (inputs_view self.new.inputs.items)) }
+    {
+        find(&mut self.inputs)
+    }
+
+    // Takes the mark or the end at a spot, and keeps the call that it asks for.
+    fn note_front(&mut self, spot: &Spot)
+        requires free { self.old.step ≡ step.Poll }
+        requires keeps { IsLawful P.stands P.amid P.takes self.old }
+        requires next { IsNext (inputs_view self.old.inputs.items) spot.now }
+        ensures keeps { Goes P.stands P.amid P.takes self.old self.new }
+        ensures turned { Turned P.same self.old self.new }
+        ensures count { received_count (inputs_view self.new.inputs.items) ≡ received_count (inputs_view self.old.inputs.items) + 1 }
+        ensures outputs { self.new.outputs ≡ self.old.outputs }
+    {
+        let arrival = arrival_at(spot, front(&self.inputs, spot));
+        skip(&mut self.inputs, spot);
+        self.step = note(&mut self.coalescer, arrival);
+    }
+
+    // Hands the data at a spot to the processor, in its slot. The call is kept, with a copy, only where it is not ended.
+    fn hand_over(&mut self, spot: &Spot) -> Result<bool, NoMemory>
+        requires free { self.old.step ≡ step.Poll }
+        requires keeps { IsLawful P.stands P.amid P.takes self.old }
+        requires next { IsNext (inputs_view self.old.inputs.items) spot.now }
+        requires is_data { (x : Item) → Stands (inputs_view self.old.inputs.items) spot.now x → IsData x }
+        ensures keeps { Goes P.stands P.amid P.takes self.old self.new }
+        ensures turned { Turned P.same self.old self.new }
+        ensures wants { OnErr result (P.frugal ≡ false) }
+        ensures pending { OnErr result (IsWanting self.new.step) }
+        ensures count { received_count (inputs_view self.new.inputs.items) ≡ received_count (inputs_view self.old.inputs.items) + 1 }
+        ensures outputs { self.new.outputs ≡ self.old.outputs }
+    {
+        let item = front(&self.inputs, spot);
+        let made = self
+            .processor
+            .accept(spot.port, spot.queue, item, &mut self.outbox);
+        if !has_ended(&made) {
+            self.step = Step::Make(Pending::Accept(arrival_at(spot, item)));
+            skip(&mut self.inputs, spot);
+            return made;
+        }
+        skip(&mut self.inputs, spot);
+        made
     }
 
     // Makes the call that is pending, and answers whether it is ended.
@@ -207,7 +266,7 @@ impl<P: Processor> Tasklet<P> {
         if !self.is_polling() {
             return Ok(false);
         }
-        Ok(self.take())
+        self.take()
     }
 
     // Takes at most 64 items, and answers whether there was one.

@@ -1,6 +1,7 @@
-use Rattle.std.proofs.Common.{◌≡◌, ℕ, true, List, inl, inr, sym, ◌∙◌, ap, subst}
+use Rattle.std.proofs.Common.{◌≡◌, ℕ, true, List, drop, inl, inr, sym, ◌∙◌, ap, subst}
 use Rattle.std.specs.Prelude.{All}
 use Rattle.jet_items.specs.declared.item.Item.{Item}
+use Rattle.jet_boxes.specs.Held.{BoxView}
 use Rattle.jet_tasklet.specs.declared.output.Output.{Output}
 use Rattle.jet_tasklet.specs.Outputs.{OutputView, outputs_view, Giving, sent_count, Says}
 use Rattle.std.specs.List.{AllZip}
@@ -9,7 +10,7 @@ use Rattle.jet_tasklet.proofs.Lasting.{zip_refl, output_stays, outputs_trans, ou
 use Rattle.jet_tasklet.proofs.Pushed.{count_ready}
 use Rattle.jet_tasklet.specs.inner.Leaving.{Leaves, IsStopped}
 use Rattle.jet_tasklet.proofs.Owing.{none_waits}
-use Rattle.jet_tasklet.proofs.Giving.{front_is, popped, leaves_part, leaves_front, blocked_unless}
+use Rattle.jet_tasklet.proofs.Giving.{front_is, leaves_part, leaves_front, blocked_unless}
 use Rattle.jet_tasklet.proofs.outputs.give_front.Goals as goal
 
 pub give_each-pushed-requires : goal.give_each-pushed-requires
@@ -41,7 +42,7 @@ returns-clause-leaves c =
     let ps : List Output = c.give_each-pushed.new.outputs in
     let qs : List OutputView = outputs_view c.clear.new.outputs in
     let had : All (λ o. o.had ≡ true) ps = c.have_all.ensures.0 c.if-not-have_all.false in
-    let rest : c.pop.new.self.items ≡ f.0 = popped c.pop.result c.args.outbox.now c.pop.new.self x f.0 c.pop.ensures.empty.0 c.pop.ensures.taken f.1 in
+    let rest : c.skip.new.self.items ≡ f.0 = ap (λ (h : BoxView). h.items) c.skip.ensures ∙ ap (λ (xs : List Item). drop 1 xs) f.1 in
     subst (λ (ys : List Item). Leaves c.args.outbox.now.items os ys qs) (sym rest) (subst (λ (xs : List Item). Leaves xs os f.0 qs) (sym f.1) (leaves_front x f.0 os ps qs c.give_each-pushed.ensures.gives had c.clear.ensures))
 
 pub returns-clause-pushes : goal.returns-clause-pushes

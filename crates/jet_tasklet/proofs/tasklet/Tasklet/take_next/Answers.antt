@@ -1,4 +1,3 @@
-use Rattle.std.proofs.Common.{◌≡◌, false}
 use Rattle.jet_tasklet.proofs.Keeping.{goes_trans, stays_trans, lawful_stays, worked_goes}
 use Rattle.jet_tasklet.proofs.Lasting.{turned_trans}
 use Rattle.jet_tasklet.proofs.tasklet.Tasklet.take_next.Goals as goal
@@ -22,6 +21,4 @@ pub returns-then-not-is_polling-clause-keeps : goal.returns-then-not-is_polling-
 returns-then-not-is_polling-clause-keeps g c = worked_goes g.P.Processor.stands g.P.Processor.amid g.P.Processor.takes c.args.self.now c.work.new.self c.work.ensures.keeps c.work.ensures.worked
 
 pub returns-clause-same : goal.returns-clause-same
-returns-clause-same g c = λ e.
-    let none : c.take.result ≡ false = cc in
-    stays_trans g.P.Processor.stands g.P.Processor.amid g.P.Processor.takes c.args.self.now c.work.new.self c.take.new.self c.work.ensures.keeps (c.take.ensures.same none)
+returns-clause-same g c = λ e. stays_trans g.P.Processor.stands g.P.Processor.amid g.P.Processor.takes c.args.self.now c.work.new.self c.take.new.self c.work.ensures.keeps (c.take.ensures.same e)

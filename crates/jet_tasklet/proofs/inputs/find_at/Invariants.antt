@@ -1,6 +1,6 @@
 use Rattle.std.proofs.Common.{◌≡◌, take}
 use Rattle.jet_tasklet.specs.Inputs.{inputs_view, queue_count, NoneKnownAt}
-use Rattle.jet_tasklet.proofs.inputs.poll_port.Given as goal
+use Rattle.jet_tasklet.proofs.inputs.find_at.Given as goal
 
 abbrev pub invariant-loop-place : goal.invariant-loop-place
 invariant-loop-place l = record {

@@ -1,10 +1,13 @@
-use Rattle.std.proofs.Common.{◌≡◌, ℕ, ◌+◌, ◌<◌, List, length, get_or, set, refl, sym, ◌∙◌, ap, arith, true, false}
-use Rattle.std.proofs.lemmas.List.{get_or-set_same}
+use Rattle.std.proofs.Common.{take, subst, ◌≡◌, ℕ, ◌+◌, ◌<◌, List, length, get_or, set, refl, sym, ◌∙◌, ap, arith, true, false}
+use Rattle.std.proofs.lemmas.List.{get_or-set_same, length-set, take-set}
 use Rattle.jet_tasklet.specs.declared.input.Input.{Input}
 use Rattle.jet_tasklet.specs.Trace.{same_port}
-use Rattle.jet_tasklet.specs.Inputs.{InputView, input_view, inputs_view}
-use Rattle.jet_tasklet.proofs.Ports.{At, at_inside, at_is, at_room, at_next, at_other, at_none, at_stays, at_sets, get_same, here_other, here_nothing, view_ported}
-use Rattle.jet_tasklet.proofs.inputs.poll_port.Goals as goal
+use Rattle.jet_tasklet.specs.Inputs.{InputView, input_view, inputs_view, queue_count}
+use Rattle.jet_ring.specs.Ring.{Ring}
+use Rattle.jet_boxes.specs.declared.port.Port.{Port}
+use Rattle.jet_tasklet.proofs.Ports.{length_views, At, at_inside, at_is, at_room, at_next, at_other, at_none, at_stays, at_sets, get_same, here_other, here_nothing, view_ported}
+use Rattle.jet_tasklet.proofs.Spots.{found_first}
+use Rattle.jet_tasklet.proofs.inputs.find_at.Goals as goal
 
 here : (vs : List InputView) (xs : List Input) (i : ℕ) (r : Input) → inputs_view xs ≡ vs → i < length xs → r ≡ get_or xs i r → At vs xs i (get_or xs i r)
 here vs xs i r same lt e = record { same = same; inside = lt; is = ap (λ (d : Input). get_or xs i d) e }
@@ -33,13 +36,13 @@ overflow_add-result c =
     let one : get_or xs i c.index-inputs-place.result ≡ x = get_same xs i c.index-inputs-place.result c.index-inputs-place-in-loop-place.result lt in
     let to : same_port x.port c.args.port ≡ true = ap (λ (y : Input). same_port y.port c.args.port) (sym one) ∙ (sym c.leads_to.ensures ∙ c.if-not-leads_to.false) in
     let room = at_room vs xs i x at c.args.port to in
-    let within = c.in-Taken.ensures.taken.0 in
+    let within = c.in-Some.ensures.found.0 in
     let few = c.requires.few in
     let first = c.loop-place.invariant.first in
     omega (arith, room, within, few, first)
 
-pub returns-in-Taken-clause-taken : goal.returns-in-Taken-clause-taken
-returns-in-Taken-clause-taken c =
+pub returns-in-Some-clause-stands : goal.returns-in-Some-clause-stands
+returns-in-Some-clause-stands c =
     let vs : List InputView = inputs_view c.args.inputs.now in
     let xs : List Input = c.loop-place.inputs in
     let i : ℕ = c.loop-place.place in
@@ -48,21 +51,45 @@ returns-in-Taken-clause-taken c =
     let at : At vs xs i x = here vs xs i c.index-inputs-place-in-loop-place.result c.loop-place.invariant.same lt c.index-inputs-place-in-loop-place.is in
     let one : get_or xs i c.index-inputs-place.result ≡ x = get_same xs i c.index-inputs-place.result c.index-inputs-place-in-loop-place.result lt in
     let to : same_port x.port c.args.port ≡ true = ap (λ (y : Input). same_port y.port c.args.port) (sym one) ∙ (sym c.leads_to.ensures ∙ c.if-not-leads_to.false) in
-    let y : Input = c.poll.new.self in
-    let seen : InputView = record { port = x.port; queues = (input_view y).queues } in
-    let looks : input_view y ≡ seen = view_ported y x.port c.in-Taken.ensures.port in record {
+    let y : Input = c.find.new.self in
+    let found = c.in-Some.ensures.found.1 in
+    let first = found_first (input_view x).queues (input_view y).queues c.in-Some.within found in
+    let after : inputs_view (set xs i y) ≡ set vs i (input_view y) = at_sets vs xs i x at y in
+    let inside : i < length vs = at_inside vs xs i x at in (
+      refl,
+      (
+        first.0,
+        record {
+          was = input_view y;
+          inside = omega (arith, lt, length_views (set xs i y), length-set xs i y);
+          at = sym (ap (λ (ws : List InputView). get_or ws i (input_view y)) after ∙ get_or-set_same vs i (input_view y) (input_view y) inside);
+          to_port = ap (λ (p : Port). same_port p c.args.port) c.in-Some.ensures.port ∙ to;
+          queue_is = ap (λ (n : ℕ). n + c.in-Some.within) (c.loop-place.invariant.first ∙ sym (ap (λ (ws : List InputView). queue_count c.args.port (take i ws)) after ∙ ap (λ (ws : List InputView). queue_count c.args.port ws) (take-set vs i (input_view y))));
+          is_queue = subst (λ (rs : List Ring). c.in-Some.within < length rs) (sym found.same.rings) c.in-Some.ensures.found.0;
+          is_open = found.item.is_open;
+          first = first.1;
+        },
+      ),
+    )
+
+pub returns-in-Some-clause-looked : goal.returns-in-Some-clause-looked
+returns-in-Some-clause-looked c =
+    let vs : List InputView = inputs_view c.args.inputs.now in
+    let xs : List Input = c.loop-place.inputs in
+    let i : ℕ = c.loop-place.place in
+    let x : Input = get_or xs i c.index-inputs-place-in-loop-place.result in
+    let lt : i < length xs = omega arith in
+    let at : At vs xs i x = here vs xs i c.index-inputs-place-in-loop-place.result c.loop-place.invariant.same lt c.index-inputs-place-in-loop-place.is in
+    let y : Input = c.find.new.self in
+    let looks = view_ported y x.port c.in-Some.ensures.port in record {
       place = i;
-      within = c.in-Taken.queue;
+      within = c.in-Some.within;
       was = input_view x;
       now = (input_view y).queues;
       inside = at_inside vs xs i x at;
       at = at_is vs xs i x at;
-      to_port = to;
-      port_is = refl;
-      queue_is = ap (λ (n : ℕ). n + c.in-Taken.queue) c.loop-place.invariant.first;
-      is_queue = c.in-Taken.ensures.taken.0;
-      took = c.in-Taken.ensures.taken.1;
-      seen = c.in-Taken.ensures.seen;
+      same = c.in-Some.ensures.found.1.same;
+      seen = c.in-Some.ensures.seen;
       after_is = at_sets vs xs i x at y ∙ ap (λ (v : InputView). set vs i v) looks;
     }
 
@@ -81,7 +108,7 @@ overflow_add-first c =
     let one : get_or xs i c.index-inputs-place.result ≡ x = get_same xs i c.index-inputs-place.result c.index-inputs-place-in-loop-place.result lt in
     let to : same_port x.port c.args.port ≡ true = ap (λ (y : Input). same_port y.port c.args.port) (sym one) ∙ (sym c.leads_to.ensures ∙ c.if-not-leads_to.false) in
     let room = at_room vs xs i x at c.args.port to in
-    let count = counted xs i x c.poll.new.self c.index-inputs-place-in-loop-place-2.result c.queues-first.result lt c.queues-first.ensures.count c.in_default.ensures.nothing in
+    let count = counted xs i x c.find.new.self c.index-inputs-place-in-loop-place-2.result c.queues-first.result lt c.queues-first.ensures.count c.in_default.ensures.nothing in
     let few = c.requires.few in
     let first = c.loop-place.invariant.first in
     omega (arith, room, count, few, first)
@@ -97,9 +124,9 @@ loop-place-preserved c =
     let one : get_or xs i c.index-inputs-place.result ≡ x = get_same xs i c.index-inputs-place.result c.index-inputs-place-in-loop-place.result lt in
     let to : same_port x.port c.args.port ≡ true = ap (λ (y : Input). same_port y.port c.args.port) (sym one) ∙ (sym c.leads_to.ensures ∙ c.if-not-leads_to.false) in
     let next = at_next vs xs i x at c.args.port to in
-    let count = counted xs i x c.poll.new.self c.index-inputs-place-in-loop-place-2.result c.queues-first.result lt c.queues-first.ensures.count c.in_default.ensures.nothing in
+    let count = counted xs i x c.find.new.self c.index-inputs-place-in-loop-place-2.result c.queues-first.result lt c.queues-first.ensures.count c.in_default.ensures.nothing in
     let first = c.loop-place.invariant.first in record {
-      same = at_stays vs xs i x at c.poll.new.self c.in_default.ensures.nothing;
+      same = at_stays vs xs i x at c.find.new.self c.in_default.ensures.nothing;
       first = omega (arith, next, count, first);
       none = at_none vs xs i x at c.args.port (here_nothing c.args.port (input_view x) c.in_default.ensures.cause) c.loop-place.invariant.none;
     }
