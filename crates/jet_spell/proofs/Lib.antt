@@ -1,0 +1,5 @@
+pub mod BigEndian
+pub mod Fields
+pub mod Items
+pub mod Lengths
+pub mod Lists
