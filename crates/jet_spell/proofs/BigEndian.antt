@@ -41,7 +41,7 @@ mod_more n p some =
     let digit : n / p % 256 < 256 = mod_below (n / p) 256 (omega arith) in
     let low : n % p < p = mod_below n p some in
     let split : n ≡ n / p / 256 * (p * 256) + (n / p % 256 * p + n % p) =
-        sym (div-add-mod' n p) ∙ ap (λ (q : ℕ). q * p + n % p) (sym (div-add-mod' (n / p) 256)) ∙ regrouped (n / p / 256) (n / p % 256) p (n % p) in
+    sym (div-add-mod' n p) ∙ ap (λ (q : ℕ). q * p + n % p) (sym (div-add-mod' (n / p) 256)) ∙ regrouped (n / p / 256) (n / p % 256) p (n % p) in
     let below : n / p % 256 * p + n % p < p * 256 = omega (arith, mul-add-lt (n / p % 256) p (n % p) 256 digit low) in
     ap (λ (m : ℕ). m % (p * 256)) split ∙ mod-mul-add (n / p / 256) (p * 256) (n / p % 256 * p + n % p) below
 
@@ -63,9 +63,9 @@ high_of zero m v = refl
 high_of (suc k) m v =
     let apart : m * 256 ^ suc k + v ≡ (m * 256) * 256 ^ k + v = ap (λ (p : ℕ). m * p + v) (pow-suc 256 k) ∙ moved m (256 ^ k) v in
     let byte : byte_at k (m * 256 ^ suc k + v) ≡ byte_at k v =
-        byte_is k (m * 256 ^ suc k + v) ∙ ap (λ (x : ℕ). x / 256 ^ k % 256) apart
-        ∙ ap (λ (x : ℕ). x % 256) (mul-add-div_right (some_power k) (m * 256) v)
-        ∙ turned m (v / 256 ^ k) ∙ sym (byte_is k v) in
+    byte_is k (m * 256 ^ suc k + v) ∙ ap (λ (x : ℕ). x / 256 ^ k % 256) apart
+    ∙ ap (λ (x : ℕ). x % 256) (mul-add-div_right (some_power k) (m * 256) v)
+    ∙ turned m (v / 256 ^ k) ∙ sym (byte_is k v) in
     let rest : bytes_high_first k (m * 256 ^ suc k + v) ≡ bytes_high_first k v = ap (λ (x : ℕ). bytes_high_first k x) apart ∙ high_of k (m * 256) v in
     λ i. byte i ∷ rest i
 
@@ -78,7 +78,7 @@ high_value (b ∷ bs) small =
     let b_small : b < 256 = small 0 in
     let below = value_below bs (λ i. small (suc i)) in
     let byte : byte_at (length bs) (b * 256 ^ length bs + value bs) ≡ b =
-        byte_is (length bs) (b * 256 ^ length bs + value bs) ∙ ap (λ (x : ℕ). x % 256) (div-mul-add b (256 ^ length bs) (value bs) below) ∙ small_is b b_small in
+    byte_is (length bs) (b * 256 ^ length bs + value bs) ∙ ap (λ (x : ℕ). x % 256) (div-mul-add b (256 ^ length bs) (value bs) below) ∙ small_is b b_small in
     let rest = high_of (length bs) b (value bs) ∙ high_value bs (λ i. small (suc i)) in
     λ i. byte i ∷ rest i
 
@@ -131,6 +131,7 @@ fits w64 v n l lt = rw l at lt
 fits w128 v n l lt = rw l at lt
 
 pub bytes_again : (w : Width) (bs : List ℕ) → length bs ≡ byte_len w → AreBytes bs → (to_be_bytes w (from_be_bytes w bs) ≡ bs) × (from_be_bytes w bs < 2 ^ bits w)
-bytes_again w bs l small =
-    (ap (λ (n : ℕ). bytes_high_first (byte_len w) n) (read_is w bs l) ∙ ap (λ (k : ℕ). bytes_high_first k (value bs)) (sym l) ∙ high_value bs small,
-    subst (λ (v : ℕ). v < 2 ^ bits w) (sym (read_is w bs l)) (fits w (value bs) (length bs) l (value_below bs small)))
+bytes_again w bs l small = (
+  ap (λ (n : ℕ). bytes_high_first (byte_len w) n) (read_is w bs l) ∙ ap (λ (k : ℕ). bytes_high_first k (value bs)) (sym l) ∙ high_value bs small,
+  subst (λ (v : ℕ). v < 2 ^ bits w) (sym (read_is w bs l)) (fits w (value bs) (length bs) l (value_below bs small)),
+)

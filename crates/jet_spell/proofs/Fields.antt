@@ -46,11 +46,11 @@ pub both_field : {A B : Type 0} {F : A → Type 0} {G : B → Type 0} {s : A →
 both_field {A} {B} {F} {G} {s} {t} {f} {g} one two = record {
   again = λ p rest fits. rw (append_assoc (s p.0) (t p.1) rest, one.again p.0 (t p.1 ++ rest) fits.0, two.again p.1 rest fits.1) refl;
   spelled = λ bytes p rest small e.
-    let first = taken_apart (f bytes) (λ a. g a.1 >>= λ b. Some ((a.0, b.0), b.1)) (p, rest) e in
-    let second = taken_apart (g first.0.1) (λ b. Some ((first.0.0, b.0), b.1)) (p, rest) first.2 in
-    let front = one.spelled bytes first.0.0 first.0.1 small first.1 in
-    let back = two.spelled first.0.1 second.0.0 second.0.1 (behind (s first.0.0) first.0.1 (subst AreBytes front.0 small)) second.1 in
-    subst (λ (q : (A × B) × List ℕ). (bytes ≡ (s q.0.0 ++ t q.0.1) ++ q.1) × (F q.0.0 × G q.0.1)) (same_in ((first.0.0, second.0.0), second.0.1) (p, rest) second.2)
+      let first = taken_apart (f bytes) (λ a. g a.1 >>= λ b. Some ((a.0, b.0), b.1)) (p, rest) e in
+      let second = taken_apart (g first.0.1) (λ b. Some ((first.0.0, b.0), b.1)) (p, rest) first.2 in
+      let front = one.spelled bytes first.0.0 first.0.1 small first.1 in
+      let back = two.spelled first.0.1 second.0.0 second.0.1 (behind (s first.0.0) first.0.1 (subst AreBytes front.0 small)) second.1 in
+      subst (λ (q : (A × B) × List ℕ). (bytes ≡ (s q.0.0 ++ t q.0.1) ++ q.1) × (F q.0.0 × G q.0.1)) (same_in ((first.0.0, second.0.0), second.0.1) (p, rest) second.2)
       (front.0 ∙ ap (λ (l : List ℕ). s first.0.0 ++ l) back.0 ∙ sym (append_assoc (s first.0.0) (t second.0.0) second.0.1), (front.1, back.1));
 }
 
@@ -67,9 +67,9 @@ pub made_field : {A B : Type 0} {F : A → Type 0} {G : B → Type 0} {s : A →
 made_field {A} {B} {F} {G} {s} {t} {f} make back so one = record {
   again = λ y rest fits. rw (so.spelled_back y fits, one.again (back y) rest (so.fits_back y fits), so.is y fits) refl;
   spelled = λ bytes y rest small e.
-    let first = taken_apart (f bytes) (λ a. Some (make a.0, a.1)) (y, rest) e in
-    let front = one.spelled bytes first.0.0 first.0.1 small first.1 in
-    subst (λ (q : B × List ℕ). (bytes ≡ t q.0 ++ q.1) × G q.0) (same_in (make first.0.0, first.0.1) (y, rest) first.2)
+      let first = taken_apart (f bytes) (λ a. Some (make a.0, a.1)) (y, rest) e in
+      let front = one.spelled bytes first.0.0 first.0.1 small first.1 in
+      subst (λ (q : B × List ℕ). (bytes ≡ t q.0 ++ q.1) × G q.0) (same_in (make first.0.0, first.0.1) (y, rest) first.2)
       (rw (so.spelled_made first.0.0 front.1) front.0, so.fits_made first.0.0 front.1);
 }
 
@@ -79,10 +79,10 @@ pub tested_field : {A : Type 0} {F P : A → Type 0} {s : A → List ℕ} {f : R
 tested_field {A} {F} {P} {s} {f} passes forth back one = record {
   again = λ x rest fits. rw (one.again x rest (forth x fits).0, (forth x fits).1) refl;
   spelled = λ bytes x rest small e.
-    let first = taken_apart (f bytes) (λ a. only_if (passes a.0) a) (x, rest) e in
-    let passed = only_so (passes first.0.0) first.0 (x, rest) first.2 in
-    let front = one.spelled bytes first.0.0 first.0.1 small first.1 in
-    subst (λ (q : A × List ℕ). (bytes ≡ s q.0 ++ q.1) × P q.0) passed.1 (front.0, back first.0.0 front.1 passed.0);
+      let first = taken_apart (f bytes) (λ a. only_if (passes a.0) a) (x, rest) e in
+      let passed = only_so (passes first.0.0) first.0 (x, rest) first.2 in
+      let front = one.spelled bytes first.0.0 first.0.1 small first.1 in
+      subst (λ (q : A × List ℕ). (bytes ≡ s q.0 ++ q.1) × P q.0) passed.1 (front.0, back first.0.0 front.1 passed.0);
 }
 
 -- ---- single fields
@@ -111,14 +111,14 @@ pub number_field : (w : Width) → IsField (λ n. n < 2 ^ bits w) (to_be_bytes w
 unfolding number_at
 number_field w = record {
   again = λ n rest lt.
-    let len : length (to_be_bytes w n) ≡ byte_len w = length_high (byte_len w) n in
-    let long : ltb (length (to_be_bytes w n ++ rest)) (byte_len w) ≡ false = le-ltb _ _ (omega (arith, length-append (to_be_bytes w n) rest)) in
-    rw (long, take_at (to_be_bytes w n) rest (byte_len w) len, drop_at (to_be_bytes w n) rest (byte_len w) len, number_again w n lt) refl;
+      let len : length (to_be_bytes w n) ≡ byte_len w = length_high (byte_len w) n in
+      let long : ltb (length (to_be_bytes w n ++ rest)) (byte_len w) ≡ false = le-ltb _ _ (omega (arith, length-append (to_be_bytes w n) rest)) in
+      rw (long, take_at (to_be_bytes w n) rest (byte_len w) len, drop_at (to_be_bytes w n) rest (byte_len w) len, number_again w n lt) refl;
   spelled = λ bytes n rest small e.
-    let so = split_so (ltb (length bytes) (byte_len w)) (from_be_bytes w (take (byte_len w) bytes), drop (byte_len w) bytes) (n, rest) e in
-    let long : byte_len w ≤ length bytes = ltb-false (length bytes) (byte_len w) so.0 in
-    let again = bytes_again w (take (byte_len w) bytes) (length-take-le (byte_len w) bytes long) (front_of_bytes (byte_len w) bytes small) in
-    subst (λ (q : ℕ × List ℕ). (bytes ≡ to_be_bytes w q.0 ++ q.1) × (q.0 < 2 ^ bits w)) so.1
+      let so = split_so (ltb (length bytes) (byte_len w)) (from_be_bytes w (take (byte_len w) bytes), drop (byte_len w) bytes) (n, rest) e in
+      let long : byte_len w ≤ length bytes = ltb-false (length bytes) (byte_len w) so.0 in
+      let again = bytes_again w (take (byte_len w) bytes) (length-take-le (byte_len w) bytes long) (front_of_bytes (byte_len w) bytes small) in
+      subst (λ (q : ℕ × List ℕ). (bytes ≡ to_be_bytes w q.0 ++ q.1) × (q.0 < 2 ^ bits w)) so.1
       (sym (take-append-drop (byte_len w) bytes) ∙ ap (λ (l : List ℕ). l ++ drop (byte_len w) bytes) (sym again.0), again.1);
 }
 
@@ -141,8 +141,8 @@ within_so most z h = grind (arith, ints, common_steps, h)
 pub within_field : (most : ℕ) → most ≤ 4000000000000000 → IsField (IsWithin most) (signed_bytes w64) (within_at most)
 unfolding within_at
 within_field most small = tested_field (is_within most)
-  (λ z h. let low = h.0 in let high = h.1 in let fits : FitsSigned w64 z = omega (arith, ints) in (fits, within_is most z h))
-  (λ z fits h. within_so most z h) (signed_field w64)
+    (λ z h. let low = h.0 in let high = h.1 in let fits : FitsSigned w64 z = omega (arith, ints) in (fits, within_is most z h))
+    (λ z fits h. within_so most z h) (signed_field w64)
 
 key_is : (k : List ℕ) → IsKey 40 k → is_key 40 k ≡ true
 key_is k h = grind (arith, common_steps, h.not_empty, h.not_long, h.alphabet)
@@ -158,19 +158,19 @@ pub key_field : IsField (IsKey 40) key_bytes key_at
 unfolding key_at bytes_at
 key_field = record {
   again = λ k rest h.
-    let long : ltb (length (k ++ rest)) (length k) ≡ false = le-ltb _ _ (omega (arith, length-append k rest)) in
-    rw (byte_field.again (length k) (k ++ rest) (omega (arith, h.not_long)), long, take_at k rest (length k) refl, drop_at k rest (length k) refl, key_is k h) refl;
+      let long : ltb (length (k ++ rest)) (length k) ≡ false = le-ltb _ _ (omega (arith, length-append k rest)) in
+      rw (byte_field.again (length k) (k ++ rest) (omega (arith, h.not_long)), long, take_at k rest (length k) refl, drop_at k rest (length k) refl, key_is k h) refl;
   spelled = λ bytes k rest small e.
-    let first = taken_apart (byte_at bytes) (λ n. tested (is_key 40) (bytes_at n.0) n.1) (k, rest) e in
-    let n = first.0.0 in
-    let tail = first.0.1 in
-    let front = byte_field.spelled bytes n tail small first.1 in
-    let second = taken_apart (bytes_at n tail) (λ a. only_if (is_key 40 a.0) a) (k, rest) first.2 in
-    let passed = only_so (is_key 40 second.0.0) second.0 (k, rest) second.2 in
-    let so = split_so (ltb (length tail) n) (take n tail, drop n tail) second.0 second.1 in
-    let len : length (take n tail) ≡ n = length-take-le n tail (ltb-false (length tail) n so.0) in
-    let is : (take n tail, drop n tail) ≡ (k, rest) = so.1 ∙ passed.1 in
-    subst (λ (q : List ℕ × List ℕ). (bytes ≡ key_bytes q.0 ++ q.1) × IsKey 40 q.0) is
+      let first = taken_apart (byte_at bytes) (λ n. tested (is_key 40) (bytes_at n.0) n.1) (k, rest) e in
+      let n = first.0.0 in
+      let tail = first.0.1 in
+      let front = byte_field.spelled bytes n tail small first.1 in
+      let second = taken_apart (bytes_at n tail) (λ a. only_if (is_key 40 a.0) a) (k, rest) first.2 in
+      let passed = only_so (is_key 40 second.0.0) second.0 (k, rest) second.2 in
+      let so = split_so (ltb (length tail) n) (take n tail, drop n tail) second.0 second.1 in
+      let len : length (take n tail) ≡ n = length-take-le n tail (ltb-false (length tail) n so.0) in
+      let is : (take n tail, drop n tail) ≡ (k, rest) = so.1 ∙ passed.1 in
+      subst (λ (q : List ℕ × List ℕ). (bytes ≡ key_bytes q.0 ++ q.1) × IsKey 40 q.0) is
       (front.0 ∙ sym (λ j. len j ∷ take-append-drop n tail j), key_so (take n tail) (subst (λ (q : List ℕ × List ℕ). is_key 40 q.0 ≡ true) (sym so.1) passed.0));
 }
 

@@ -1,14 +1,15 @@
 -- Items: what is spelled is read, and what is read is spelled so.
-use Rattle.std.proofs.Common.{◌≡◌, ℕ, zero, suc, ◌<◌, List, [], ◌∷◌, ◌++◌, Some, None, refl, sym, ap, subst, ◌∙◌, arith}
+use Rattle.std.proofs.Common.{◌≡◌, ℕ, zero, suc, ◌+◌, ◌-◌, ◌<◌, ◌≤◌, List, [], ◌∷◌, ◌++◌, length, drop, Some, None, refl, sym, ap, subst, ◌∙◌, arith}
 use Rattle.std.specs.Int.{w16, w32, w64, w128}
 use Rattle.std.proofs.lemmas.Bool.{ne_eqb}
+use Rattle.std.proofs.lemmas.List.{length-append, drop_at}
 use Rattle.jet_items.specs.Fits.{EventFits, SideFits, AccFits, FrameFits, RowFits, LateFits, ItemFits}
 use Rattle.jet_items.specs.Ranges.{IsWithin, most_time, most_frame_end, most_row_end, most_mark}
 use Rattle.jet_items.specs.declared.item.Item.{Item}
 use Rattle.jet_items.specs.declared.item.Item.TheVariants as item
 use Rattle.jet_spell.specs.Spelling.{signed_bytes, event_bytes, side_bytes, acc_bytes, span_bytes, spelling}
 use Rattle.jet_spell.specs.Reading.{Reads, made, event_at, side_at, acc_at, frame_at, row_at, late_at, within_at, byte_at, kind_at, item_at}
-use Rattle.jet_spell.specs.Laws.{AreBytes}
+use Rattle.jet_spell.specs.Laws.{AreBytes, BeginsWith, BeginsNone}
 use Rattle.jet_spell.proofs.Fields.{IsField, both_field, made_field, byte_field, number_field, signed_field, within_field, key_field, values_field, taken_apart, same_in}
 
 time_field : IsField (IsWithin most_time) (signed_bytes w64) (within_at most_time)
@@ -100,9 +101,9 @@ kind_spelled {A} {F} {s} {f} make tag spelled fits one bytes x rest small e =
     let first = taken_apart (f bytes) (λ a. Some (make a.0, a.1)) (x, rest) e in
     let front = one.spelled bytes first.0.0 first.0.1 small first.1 in
     subst (λ (q : Item × List ℕ). (tag ∷ bytes ≡ spelling q.0 ++ q.1) × ItemFits q.0) (same_in (make first.0.0, first.0.1) (x, rest) first.2)
-      (rw (spelled first.0.0) (ap (λ (l : List ℕ). tag ∷ l) front.0), fits first.0.0 front.1)
+    (rw (spelled first.0.0) (ap (λ (l : List ℕ). tag ∷ l) front.0), fits first.0.0 front.1)
 
-none_is : {A : Type 0} (a : A) → None ≡ Some a → ⊥
+pub none_is : {A : Type 0} (a : A) → None ≡ Some a → ⊥
 none_is a e = cc
 
 no_kind : (t : ℕ) (bytes : List ℕ) → 8 < t → kind_at t bytes ≡ None
@@ -133,3 +134,16 @@ pub one_spelling : (x y : Item) (a b : List ℕ) → ItemFits x → ItemFits y �
 one_spelling x y a b fx fy e =
     let both : (x, a) ≡ (y, b) = same_in (x, a) (y, b) (sym (reads_back x a fx) ∙ ap item_at e ∙ reads_back y b fy) in
     (ap (λ (p : Item × List ℕ). p.0) both, ap (λ (p : Item × List ℕ). p.1) both)
+
+-- ---- how many bytes an item takes
+
+pub begins_with : (bytes left : List ℕ) (x : Item) (n : ℕ) → (bytes ≡ spelling x ++ left) × ItemFits x → n ≡ length bytes - length left
+    → (length left ≤ length bytes) × (drop n bytes ≡ left) × BeginsWith x n bytes
+begins_with bytes left x n (is, fits) taken =
+    let all : length bytes ≡ length (spelling x) + length left = ap length is ∙ length-append (spelling x) left in
+    let len : n ≡ length (spelling x) = omega arith in
+    let behind : drop n bytes ≡ left = ap (λ (l : List ℕ). drop n l) is ∙ drop_at (spelling x) left n (sym len) in
+    (omega arith, behind, record { fits = fits; len = len; begins = is ∙ ap (λ (l : List ℕ). spelling x ++ l) (sym behind) })
+
+pub begins_none : (bytes : List ℕ) → item_at bytes ≡ None → BeginsNone bytes
+begins_none bytes none x rest fits is = none_is (x, rest) (sym none ∙ ap item_at is ∙ reads_back x rest fits)

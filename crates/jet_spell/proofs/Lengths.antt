@@ -1,8 +1,8 @@
 -- How long spellings are.
-use Rattle.std.proofs.Common.{◌≡◌, ℕ, ◌+◌, ◌*◌, ◌≤◌, List, [], ◌∷◌, ◌++◌, length, refl, ◌∙◌, arith}
+use Rattle.std.proofs.Common.{◌≡◌, ℕ, ◌+◌, ◌*◌, ◌<◌, ◌≤◌, List, [], ◌∷◌, ◌++◌, length, take, get_or, refl, sym, ap, ◌∙◌, arith}
 use Rattle.std.specs.Prelude.{ℤ}
 use Rattle.std.specs.Int.{w64}
-use Rattle.std.proofs.lemmas.List.{length-append}
+use Rattle.std.proofs.lemmas.List.{length-append, flat_map_more, take_more}
 use Rattle.jet_items.specs.Fits.{ItemFits}
 use Rattle.jet_items.specs.Values.{EventValue, SideValue, AccValue}
 use Rattle.jet_items.specs.declared.item.Item.{Item}
@@ -32,3 +32,11 @@ short (item.Late l) f = (omega arith, omega (arith, length_event l.event, f.even
 short (item.Mark t) f = (omega arith, omega arith)
 short item.Done f = (omega arith, omega arith)
 short item.Idle f = (omega arith, omega arith)
+
+-- ---- one value more
+
+pub values_more : (s t : List ℕ) (v : List ℤ) (i : ℕ) (d : ℤ) → i < length v → t ≡ s ++ values_bytes (take i v)
+    → t ++ signed_bytes w64 (get_or v i d) ≡ s ++ values_bytes (take (i + 1) v)
+values_more s t v i d lt is =
+    ap (λ (l : List ℕ). l ++ signed_bytes w64 (get_or v i d)) is ∙ flat_map_more (signed_bytes w64) s (take i v) (get_or v i d)
+    ∙ ap (λ (w : List ℤ). s ++ values_bytes w) (sym (take_more v i d lt))

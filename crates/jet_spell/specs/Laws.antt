@@ -1,9 +1,10 @@
 -- What spellings and reading have to do with each other.
-use Rattle.std.specs.Prelude.{◌≡◌, ℕ, ◌≤◌, ◌<◌, ◌^◌, List, ◌++◌, length, slice_index, Some}
+use Rattle.std.specs.Prelude.{◌≡◌, ℕ, ◌≤◌, ◌<◌, ◌^◌, List, [], ◌∷◌, ◌++◌, length, take, drop, slice_index, Some}
 use Rattle.std.specs.List.{AllByRecursion}
 use mathlib.Core.List.{IsPrefix}
 use Rattle.jet_items.specs.Fits.{ItemFits}
 use Rattle.jet_items.specs.declared.item.Item.{Item}
+use Rattle.jet_spell.specs.Packets.{AreSpelled, IsSpelled}
 use Rattle.jet_spell.specs.Spelling.{spelling, spellings}
 use Rattle.jet_spell.specs.Reading.{item_at}
 
@@ -32,3 +33,33 @@ SpellingsAreShort = (x : Item) → ItemFits x → (1 ≤ length (spelling x)) ×
 abbrev pub FrontOf : Type 0
 FrontOf = (xs ys : List Item) (rest : List ℕ) → AllByRecursion ItemFits xs → AllByRecursion ItemFits ys
     → spellings xs ++ rest ≡ spellings ys → IsPrefix xs ys
+
+-- bytes are the spellings of one list of items alone
+abbrev pub OneList : Type 0
+OneList = (xs ys : List Item) (bytes : List ℕ) → AreSpelled xs bytes → AreSpelled ys bytes → xs ≡ ys
+
+-- one spelling more is that of one item more; no bytes are the spellings of no items
+pub record SpelledOn : Type 0 where
+  pub none : AreSpelled [] []
+  pub more : (xs : List Item) (bytes : List ℕ) (x : Item) → AreSpelled xs bytes → ItemFits x → AreSpelled (xs ++ x ∷ []) (bytes ++ spelling x)
+
+-- what is read of spellings is the first item, and the rest is spelled by the others
+abbrev pub FirstIsRead : Type 0
+FirstIsRead = (x : Item) (xs : List Item) (bytes : List ℕ) → AreSpelled (x ∷ xs) bytes
+    → (item_at bytes ≡ Some (x, spellings xs)) × AreSpelled xs (spellings xs)
+
+-- the bytes begin with the spelling of x, which has n bytes
+pub record BeginsWith (x : Item) (n : ℕ) (bytes : List ℕ) : Type 0 where
+  pub fits : ItemFits x
+  pub len : n ≡ length (spelling x)
+  pub begins : bytes ≡ spelling x ++ drop n bytes
+
+-- no item's spelling begins the bytes
+abbrev pub BeginsNone : List ℕ → Type 0
+BeginsNone bytes = (x : Item) (rest : List ℕ) → ItemFits x → bytes ≡ spelling x ++ rest → ⊥
+
+-- the bytes begin with the spellings of these items, up to `at`, and no further item is spelled from there on
+pub record IsLongest (items : List Item) (at : ℕ) (bytes : List ℕ) : Type 0 where
+  pub within : at ≤ length bytes
+  pub spelled : AreSpelled items (take at bytes)
+  pub none : BeginsNone (drop at bytes)

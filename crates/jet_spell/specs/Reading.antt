@@ -1,5 +1,5 @@
 -- The item that bytes begin with. What is read is spelled so, and what is spelled is read (`Laws`).
-use Rattle.std.specs.Prelude.{ℕ, zero, suc, ℤ, Bool, true, false, nat_lt, ◌==◌, if◌then◌else◌, List, [], ◌∷◌, length, take, drop, Option, Some, None}
+use Rattle.std.specs.Prelude.{◌≡◌, ℕ, zero, suc, ℤ, Bool, true, false, nat_lt, ◌==◌, if◌then◌else◌, List, [], ◌∷◌, length, take, drop, Option, Some, None, MatchOption}
 use Rattle.std.specs.Int.{Width, w16, w32, w64, w128, byte_len, from_be_bytes, cast_signed}
 use Rattle.jet_items.specs.Values.{EventValue, SideValue, AccValue, FrameValue, RowValue, LateValue}
 use Rattle.jet_items.specs.KeyBytes.{is_key}
@@ -106,3 +106,7 @@ unfoldable pub item_at : Reads Item
 item_at bytes = do
   tag ← byte_at bytes
   kind_at tag.0 tag.1
+
+-- the answer of a call that reads: the value with the bytes that are left, or none
+abbrev pub Answers : {A : Type 0} → Option (A × List ℕ) → Option A → List ℕ → Type 0
+Answers read answer left = MatchOption answer (read ≡ None) (λ a. read ≡ Some (a, left))

@@ -1,6 +1,21 @@
 //! How items are spelled as bytes, and read again.
 #![tactic(auto)]
 
+mod item;
 mod laws;
+mod packet;
+mod read;
+mod reader;
+mod tag;
+mod write;
+mod writer;
 
-pub use laws::{front_of, is_spelled_so, one_spelling, reads_back, spellings_are_short};
+pub use item::{read_item, write_item};
+pub use laws::{
+    first_is_read, front_of, is_spelled_so, one_list, one_spelling, reads_back, spelled_on,
+    spellings_are_short,
+};
+pub use packet::{PacketFault, read_packet};
+
+#[cfg(test)]
+mod tests;
