@@ -1,8 +1,22 @@
--- The byte that tells the kind of an item.
+-- Kinds of items, each told by a byte.
 use Rattle.std.specs.Prelude.{ℕ, ◌==◌, if◌then◌else◌, Option, Some, None}
+use Rattle.jet_items.specs.declared.item.Item.{Item}
+use Rattle.jet_items.specs.declared.item.Item.TheVariants as item
 use Rattle.jet_spell.specs.declared.tag.Tag.{Tag}
 use Rattle.jet_spell.specs.declared.tag.Tag.TheVariants as tag
 
+-- the kind of an item
+abbrev pub tag_of : Item → Tag
+tag_of (item.Event e) = tag.Event
+tag_of (item.Side s) = tag.Side
+tag_of (item.Frame f) = tag.Frame
+tag_of (item.Row r) = tag.Row
+tag_of (item.Late l) = tag.Late
+tag_of (item.Mark t) = tag.Mark
+tag_of item.Done = tag.Done
+tag_of item.Idle = tag.Idle
+
+-- the byte that tells a kind
 abbrev pub tag_byte : Tag → ℕ
 tag_byte tag.Event = 1
 tag_byte tag.Side = 2

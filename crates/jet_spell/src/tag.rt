@@ -1,5 +1,7 @@
 // Tags: the first byte of a spelling tells the kind of the item.
-ghost use Rattle.std.specs.Prelude.{◌≡◌, ◌<◌, ◌⊎◌, MatchOption};
+ghost use Rattle.std.specs.Prelude.{◌≡◌};
+
+use jet_items::Item;
 
 /// The kind of an item, with the byte that tells it.
 #[derive(Clone, Copy)]
@@ -15,7 +17,22 @@ pub(crate) enum Tag {
 }
 
 impl Tag {
-    ghost use Rattle.jet_spell.specs.Tags.{tag_byte, tag_at};
+    ghost use Rattle.jet_spell.specs.Tags.{tag_of, tag_byte, tag_at};
+
+    pub(crate) fn of(item: &Item) -> Tag
+        ensures { result ≡ tag_of item.now }
+    {
+        match item {
+            Item::Event(_) => Tag::Event,
+            Item::Side(_) => Tag::Side,
+            Item::Frame(_) => Tag::Frame,
+            Item::Row(_) => Tag::Row,
+            Item::Late(_) => Tag::Late,
+            Item::Mark(_) => Tag::Mark,
+            Item::Done => Tag::Done,
+            Item::Idle => Tag::Idle,
+        }
+    }
 
     pub(crate) fn byte(self) -> u8
         ensures { result ≡ tag_byte self }

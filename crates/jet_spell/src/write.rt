@@ -14,34 +14,18 @@ impl Writer {
         ensures { result ≡ spelling item.now }
     {
         let mut writer = Writer::new();
+        writer.byte(Tag::of(item).byte());
         match item {
-            Item::Event(event) => {
-                writer.byte(Tag::Event as u8);
-                writer.event(event);
-            }
-            Item::Side(side) => {
-                writer.byte(Tag::Side as u8);
-                writer.side(side);
-            }
-            Item::Frame(frame) => {
-                writer.byte(Tag::Frame as u8);
-                writer.span(frame.vertex, frame.end, &frame.key, &frame.acc);
-            }
-            Item::Row(row) => {
-                writer.byte(Tag::Row as u8);
-                writer.span(row.vertex, row.end, &row.key, &row.acc);
-            }
+            Item::Event(event) => writer.event(event),
+            Item::Side(side) => writer.side(side),
+            Item::Frame(frame) => writer.span(frame.vertex, frame.end, &frame.key, &frame.acc),
+            Item::Row(row) => writer.span(row.vertex, row.end, &row.key, &row.acc),
             Item::Late(late) => {
-                writer.byte(Tag::Late as u8);
                 writer.byte(late.vertex);
                 writer.event(&late.event);
             }
-            Item::Mark(mark) => {
-                writer.byte(Tag::Mark as u8);
-                writer.i64(mark.t);
-            }
-            Item::Done => writer.byte(Tag::Done as u8),
-            Item::Idle => writer.byte(Tag::Idle as u8),
+            Item::Mark(mark) => writer.i64(mark.t),
+            Item::Done | Item::Idle => {}
         }
         writer
     }
