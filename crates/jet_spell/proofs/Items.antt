@@ -9,7 +9,8 @@ use Rattle.jet_items.specs.declared.item.Item.{Item}
 use Rattle.jet_items.specs.declared.item.Item.TheVariants as item
 use Rattle.jet_spell.specs.Spelling.{signed_bytes, event_bytes, side_bytes, acc_bytes, span_bytes, spelling}
 use Rattle.jet_spell.specs.Reading.{Reads, made, event_at, side_at, acc_at, frame_at, row_at, late_at, within_at, byte_at, kind_at, item_at}
-use Rattle.jet_spell.specs.Laws.{AreBytes, BeginsWith, BeginsNone}
+use Rattle.jet_spell.specs.Begins.{BeginsWith, BeginsNone}
+use Rattle.jet_spell.specs.Laws.{AreBytes}
 use Rattle.jet_spell.proofs.Fields.{IsField, both_field, made_field, byte_field, number_field, signed_field, within_field, key_field, values_field, taken_apart, same_in}
 
 time_field : IsField (IsWithin most_time) (signed_bytes w64) (within_at most_time)

@@ -1,6 +1,6 @@
 -- Lists of items are told by their bytes.
 use Rattle.std.proofs.Common.{◌≡◌, ℕ, ◌<◌, List, [], ◌∷◌, ◌++◌, length, drop, Option, Some, None, MatchOption, Bool, true, false, refl, sym, ap, subst, ◌∙◌, append_assoc, arith}
-use Rattle.std.specs.List.{flat_map, AllByRecursion}
+use Rattle.std.specs.List.{AllByRecursion}
 use Rattle.std.specs.Option.{IsSomeAnd, IsSomeAnd-prop}
 use Rattle.std.proofs.Math.Logic.{∥∥₁_elim, ∥∥₁_map, ∥∥₁_prop}
 use Rattle.std.proofs.lemmas.Grind.{flat_map-append}
@@ -13,7 +13,7 @@ use Rattle.jet_items.specs.declared.item.Item.{Item}
 use Rattle.jet_spell.specs.Spelling.{spelling, spellings}
 use Rattle.jet_spell.specs.Reading.{item_at, byte_at}
 use Rattle.jet_spell.specs.Packets.{AreSpelled, IsSpelled}
-use Rattle.jet_spell.specs.Laws.{BeginsWith, BeginsNone}
+use Rattle.jet_spell.specs.Begins.{BeginsWith, BeginsNone}
 use Rattle.jet_spell.proofs.Items.{reads_back, one_spelling, none_is}
 
 nothing_read : item_at [] ≡ None

@@ -1,13 +1,12 @@
 -- The longest prefix of bytes that is a list of whole spellings.
-use Rattle.std.proofs.Common.{◌≡◌, ℕ, ◌+◌, ◌-◌, ◌<◌, ◌≤◌, ◌⊎◌, inl, inr, List, [], ◌∷◌, ◌++◌, length, take, drop, refl, sym, ap, subst, ◌∙◌, append_assoc, arith}
+use Rattle.std.proofs.Common.{◌≡◌, ℕ, ◌+◌, ◌-◌, ◌<◌, ◌≤◌, ◌⊎◌, inl, inr, List, [], ◌∷◌, ◌++◌, length, take, drop, sym, ap, subst, ◌∙◌, append_assoc, arith}
 use Rattle.std.proofs.Math.Logic.{∥∥₁_elim}
 use Rattle.std.proofs.Math.Seq.{take-add}
 use Rattle.std.proofs.lemmas.List.{length-append, length-drop, length-take-le, take_at, take_all, take-append-drop}
 use Rattle.jet_items.specs.declared.item.Item.{Item}
-use Rattle.jet_items.specs.Fits.{ItemFits}
 use Rattle.jet_spell.specs.Spelling.{spelling, spellings}
-use Rattle.jet_spell.specs.Packets.{AreSpelled, IsSpelled, IsPacket, IsMalformed}
-use Rattle.jet_spell.specs.Laws.{BeginsWith, BeginsNone, IsLongest}
+use Rattle.jet_spell.specs.Packets.{AreSpelled, IsSpelled, IsMalformed}
+use Rattle.jet_spell.specs.Begins.{BeginsWith, BeginsNone, IsLongest}
 use Rattle.jet_spell.proofs.Lengths.{short}
 use Rattle.jet_spell.proofs.Lists.{behind, one_more}
 

@@ -1,3 +1,4 @@
+pub mod Begins
 pub mod Laws
 pub mod Packets
 pub mod Reading

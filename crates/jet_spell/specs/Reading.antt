@@ -11,11 +11,13 @@ use Rattle.jet_items.specs.declared.item.Item.TheVariants as item
 abbrev pub Reads : Type 0 → Type 0
 Reads A = List ℕ → Option (A × List ℕ)
 
+-- goes on with what was read, if anything was
 infixl 10 ◌>>=◌
 abbrev pub ◌>>=◌ : {A B : Type 0} → Option A → (A → Option B) → Option B
 (Some x) >>= f = f x
 None >>= f = None
 
+-- x where the test holds
 abbrev pub only_if : {A : Type 0} → Bool → A → Option A
 only_if true x = Some x
 only_if false x = None
@@ -40,13 +42,16 @@ tested passes read bytes = do
   a ← read bytes
   only_if (passes a.0) a
 
+-- one byte
 unfoldable pub byte_at : Reads ℕ
 byte_at [] = None
 byte_at (b ∷ rest) = Some (b, rest)
 
+-- a number of this width
 unfoldable pub number_at : Width → Reads ℕ
 number_at w bytes = if nat_lt (length bytes) (byte_len w) then None else Some (from_be_bytes w (take (byte_len w) bytes), drop (byte_len w) bytes)
 
+-- a signed number of this width
 unfoldable pub signed_at : Width → Reads ℤ
 signed_at w = made (cast_signed w) (number_at w)
 
@@ -58,6 +63,7 @@ within_at most = tested (is_within most) (signed_at w64)
 unfoldable pub bytes_at : ℕ → Reads (List ℕ)
 bytes_at n bytes = if nat_lt (length bytes) n then None else Some (take n bytes, drop n bytes)
 
+-- a key: its length, and then so many bytes that are a key of at most 40
 unfoldable pub key_at : Reads (List ℕ)
 key_at bytes = do
   n ← byte_at bytes
@@ -67,6 +73,8 @@ key_at bytes = do
 unfoldable pub values_at : ℕ → Reads (List ℤ)
 values_at zero bytes = Some ([], bytes)
 values_at (suc n) bytes = made (λ p. p.0 ∷ p.1) (within_at most_time & values_at n) bytes
+
+-- ---- the fields of each kind, in their order
 
 unfoldable pub event_at : Reads EventValue
 event_at = made (λ p. record { part = p.0; line = p.1.0; ts = p.1.1.0; key = p.1.1.1.0; v = p.1.1.1.1 })

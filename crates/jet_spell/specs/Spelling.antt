@@ -19,6 +19,8 @@ key_bytes k = length k ∷ k
 abbrev pub values_bytes : List ℤ → List ℕ
 values_bytes v = flat_map (signed_bytes w64) v
 
+-- ---- the fields of each kind, in their order
+
 abbrev pub event_bytes : EventValue → List ℕ
 event_bytes e = to_be_bytes w16 e.part ++ (to_be_bytes w32 e.line ++ (signed_bytes w64 e.ts ++ (key_bytes e.key ++ values_bytes e.v)))
 

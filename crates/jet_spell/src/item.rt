@@ -6,7 +6,7 @@ ghost use Rattle.jet_items.specs.Fits.{ItemFits};
 ghost use Rattle.jet_spell.specs.Packets.{IsSpelled};
 ghost use Rattle.jet_spell.specs.Reading.{item_at};
 ghost use Rattle.jet_spell.specs.Spelling.{spelling};
-ghost use Rattle.jet_spell.specs.Laws.{BeginsWith, BeginsNone};
+ghost use Rattle.jet_spell.specs.Begins.{BeginsWith, BeginsNone};
 
 use crate::reader::Reader;
 use crate::writer::Writer;

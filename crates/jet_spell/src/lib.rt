@@ -1,4 +1,7 @@
-//! How items are spelled as bytes, and read again.
+//! How items are spelled as bytes, and read again: what members send each other.
+//!
+//! Each item has one spelling, a byte that tells its kind and then its fields, and a packet is a list of them. Definitions
+//! and laws are in `specs/`; the laws are contracts of functions that do nothing, so that proofs above can rest on them.
 #![tactic(auto)]
 
 mod item;

@@ -1,6 +1,6 @@
 // Packets: the spellings of one or more items, one after another.
 ghost use Rattle.std.specs.Prelude.{◌<◌, ◌^◌, length, IfOk, IfErr};
-ghost use Rattle.jet_spell.specs.Laws.{IsLongest};
+ghost use Rattle.jet_spell.specs.Begins.{IsLongest};
 ghost use Rattle.jet_spell.specs.Packets.{AreSpelled, IsPacket};
 ghost use Rattle.jet_spell.specs.Refusals.{HasCause};
 

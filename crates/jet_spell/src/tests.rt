@@ -75,16 +75,15 @@ fn each_kind_has_its_bytes(rt: HostRuntime) -> Result<(), Fail> {
 }
 
 #[test]
-fn an_event_is_read_field_by_field(rt: HostRuntime) -> Result<(), Fail> {
-    let read = match read_item(EVENT) {
-        Some((Item::Event(event), _)) => Some(event),
+fn an_event_is_read_field_by_field(rt: HostRuntime) {
+    let fields = match &read_item(EVENT) {
+        Some((Item::Event(event), 49)) => {
+            let named = event.key.bytes() == b"a".as_slice();
+            Some((event.part, event.line, event.ts, named, event.v))
+        }
         _ => None,
     };
-    let event = read.ok_or("no event")?;
-    assert_eq!(rt; (event.part, event.line, event.ts), (0, 1, 7));
-    assert_eq!(rt; event.key.bytes(), b"a".as_slice());
-    assert_eq!(rt; event.v, [2, 0, 0, 0]);
-    Ok(())
+    assert_eq!(rt; fields, Some((0, 1, 7, true, [2, 0, 0, 0])));
 }
 
 #[test]

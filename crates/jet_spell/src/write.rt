@@ -30,6 +30,7 @@ impl Writer {
         writer
     }
 
+    // At most 87 bytes: 2, 4 and 8, the key's 41, and four times 8.
     fn event(&mut self, event: &Event)
         requires { length self.old + 87 ≤ 119 }
         ensures { self.new ≡ self.old ++ event_bytes event.now }
@@ -41,6 +42,7 @@ impl Writer {
         self.values(&event.v);
     }
 
+    // At most 118 bytes: 4, two keys of 41, and four times 8.
     fn side(&mut self, side: &Side)
         requires { length self.old + 118 ≤ 119 }
         ensures { self.new ≡ self.old ++ side_bytes side.now }
@@ -51,7 +53,7 @@ impl Writer {
         self.values(&side.v);
     }
 
-    // A frame or a row.
+    // A frame or a row, of at most 90 bytes: 1 and 8, the key's 41, and what is known of its events.
     fn span(&mut self, vertex: u8, end: i64, key: &Key, acc: &Acc)
         requires { length self.old + 90 ≤ 119 }
         ensures { self.new ≡ self.old ++ span_bytes vertex end key.now acc.now }
@@ -62,6 +64,7 @@ impl Writer {
         self.acc(acc);
     }
 
+    // 40 bytes: 8, 16, and twice 8.
     fn acc(&mut self, acc: &Acc)
         requires { length self.old + 40 ≤ 119 }
         ensures { self.new ≡ self.old ++ acc_bytes acc.now }

@@ -72,6 +72,7 @@ impl Writer {
         self.put(&value.to_be_bytes());
     }
 
+    /// The key's length in one byte, and its bytes.
     pub(crate) fn key(&mut self, key: &Key)
         requires { length self.old + 41 ≤ 119 }
         ensures key { self.new ≡ self.old ++ key_bytes key.now }
@@ -82,7 +83,6 @@ impl Writer {
         self.put(bytes);
     }
 
-    #[tactic(auto, using(crate::proofs::Lengths::values_more))]
     pub(crate) fn values(&mut self, values: &[i64; 4])
         requires { length self.old + 32 ≤ 119 }
         ensures { self.new ≡ self.old ++ values_bytes values.now }

@@ -1,7 +1,6 @@
 use Rattle.std.proofs.Common.{◌≡◌, ◌-◌, ◌≤◌, ℕ, List, Some, None, refl, sym, ap, ◌∙◌, length, drop}
 use Rattle.std.proofs.Math.Facts.{Fits-lt-pow}
-use Rattle.jet_items.specs.declared.item.Item.{Item}
-use Rattle.jet_spell.specs.Laws.{BeginsWith, BeginsNone}
+use Rattle.jet_spell.specs.Begins.{BeginsWith, BeginsNone}
 use Rattle.jet_spell.specs.Reading.{item_at}
 use Rattle.jet_spell.proofs.Items.{spelled_so, begins_with, begins_none}
 use Rattle.jet_spell.proofs.Lists.{goes_on}

@@ -1,7 +1,7 @@
-use Rattle.std.proofs.Common.{◌+◌, List, ◌∷◌, [], ◌++◌, sym, subst, take, arith}
+use Rattle.std.proofs.Common.{◌+◌, List, sym, subst, take, arith}
 use Rattle.std.proofs.lemmas.List.{take_rest}
 use Rattle.jet_items.specs.declared.item.Item.{Item}
-use Rattle.jet_spell.specs.Laws.{BeginsWith}
+use Rattle.jet_spell.specs.Begins.{BeginsWith}
 use Rattle.jet_spell.specs.Packets.{AreSpelled}
 use Rattle.jet_spell.proofs.Longest.{one_read}
 use Rattle.jet_spell.proofs.packet.whole_items.Goals as goal
