@@ -1,15 +1,12 @@
 // Items from the front of bytes. What is read lies in the ranges of its types, since nothing else is spelled.
-ghost use Rattle.std.specs.Prelude.{◌≡◌, ◌≤◌, ◌++◌, drop, length, MatchOption, IfSome};
-ghost use Rattle.jet_items.specs.Fits.{ItemFits};
 ghost use Rattle.jet_items.specs.Ranges.{most_mark};
 ghost use Rattle.jet_spell.specs.Reading.{Answers, event_at, side_at, acc_at, frame_at, row_at, late_at, within_at, item_at};
-ghost use Rattle.jet_spell.specs.Spelling.{spelling};
 
 use crate::reader::{MOST_TIME, Reader};
 use crate::tag::Tag;
 use jet_items::{Acc, Event, Frame, Item, Late, Mark, Row, Side};
 
-// Frames and rows end so far from 0 at most.
+// Frames and rows end so far from 0 at most, by the ranges of `jet_items`.
 const MOST_FRAME_END: u64 = 1_001_000_000_000_000;
 
 const MOST_ROW_END: u64 = 1_002_000_000_000_000;

@@ -1,6 +1,6 @@
 // The spellings of items. Each call writes one part behind what was written before; the longest spelling is that of a
 // side row.
-ghost use Rattle.std.specs.Prelude.{◌≡◌, ◌+◌, ◌≤◌, ◌++◌, [], length};
+ghost use Rattle.std.specs.Prelude.{◌≡◌, ◌+◌, ◌≤◌, ◌++◌, length};
 ghost use Rattle.jet_spell.specs.Spelling.{event_bytes, side_bytes, acc_bytes, span_bytes, spelling};
 
 use crate::tag::Tag;
