@@ -1,5 +1,5 @@
 -- How long spellings are.
-use Rattle.std.proofs.Common.{◌≡◌, ℕ, ◌+◌, ◌*◌, ◌<◌, ◌≤◌, List, [], ◌∷◌, ◌++◌, length, take, get_or, refl, sym, ap, ◌∙◌, arith}
+use Rattle.std.proofs.Common.{◌≡◌, ℕ, ◌+◌, ◌*◌, ◌<◌, ◌≤◌, List, [], ◌∷◌, ◌++◌, length, take, drop, get_or, refl, sym, ap, ◌∙◌, arith}
 use Rattle.std.specs.Prelude.{ℤ}
 use Rattle.std.specs.Int.{w64}
 use Rattle.std.proofs.lemmas.List.{length-append, flat_map_more, take_more}
@@ -7,6 +7,7 @@ use Rattle.jet_items.specs.Fits.{ItemFits}
 use Rattle.jet_items.specs.Values.{EventValue, SideValue, AccValue}
 use Rattle.jet_items.specs.declared.item.Item.{Item}
 use Rattle.jet_items.specs.declared.item.Item.TheVariants as item
+use Rattle.jet_spell.specs.Begins.{BeginsWith}
 use Rattle.jet_spell.specs.Spelling.{signed_bytes, key_bytes, values_bytes, event_bytes, side_bytes, acc_bytes, span_bytes, spelling}
 
 pub length_values : (v : List ℤ) → length (values_bytes v) ≡ 8 * length v
@@ -40,3 +41,10 @@ pub values_more : (s t : List ℕ) (v : List ℤ) (i : ℕ) (d : ℤ) → i < le
 values_more s t v i d lt is =
     ap (λ (l : List ℕ). l ++ signed_bytes w64 (get_or v i d)) is ∙ flat_map_more (signed_bytes w64) s (take i v) (get_or v i d)
     ∙ ap (λ (w : List ℤ). s ++ values_bytes w) (sym (take_more v i d lt))
+
+-- ---- where bytes begin with an item
+
+pub bounds : (x : Item) (n : ℕ) (bytes : List ℕ) → BeginsWith x n bytes → (0 < n) × (n ≤ length bytes)
+bounds x n bytes b =
+    let all : length bytes ≡ length (spelling x) + length (drop n bytes) = ap length b.begins ∙ length-append (spelling x) (drop n bytes) in
+    (omega (arith, (short x b.fits).0, b.len), omega (arith, all, b.len))

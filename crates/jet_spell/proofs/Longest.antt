@@ -2,12 +2,12 @@
 use Rattle.std.proofs.Common.{◌≡◌, ℕ, ◌+◌, ◌-◌, ◌<◌, ◌≤◌, ◌⊎◌, inl, inr, List, [], ◌∷◌, ◌++◌, length, take, drop, sym, ap, subst, ◌∙◌, append_assoc, arith}
 use Rattle.std.proofs.Math.Logic.{∥∥₁_elim}
 use Rattle.std.proofs.Math.Seq.{take-add}
-use Rattle.std.proofs.lemmas.List.{length-append, length-drop, length-take-le, take_at, take_all, take-append-drop}
+use Rattle.std.proofs.lemmas.List.{length-drop, length-take-le, take_at, take_all, take-append-drop}
 use Rattle.jet_items.specs.declared.item.Item.{Item}
 use Rattle.jet_spell.specs.Spelling.{spelling, spellings}
 use Rattle.jet_spell.specs.Packets.{AreSpelled, IsSpelled, IsMalformed}
 use Rattle.jet_spell.specs.Begins.{BeginsWith, BeginsNone, IsLongest}
-use Rattle.jet_spell.proofs.Lengths.{short}
+use Rattle.jet_spell.proofs.Lengths.{bounds}
 use Rattle.jet_spell.proofs.Lists.{behind, one_more}
 
 -- one item more
@@ -22,11 +22,10 @@ one_read items bytes at n x within so b =
     let rest : List ℕ = drop n (drop at bytes) in
     let front : take n (drop at bytes) ≡ spelling x = ap (λ (l : List ℕ). take n l) b.begins ∙ take_at (spelling x) rest n (sym b.len) in
     let both : take (at + n) bytes ≡ take at bytes ++ spelling x = take-add at n bytes ∙ ap (λ (l : List ℕ). take at bytes ++ l) front in
-    let all : length bytes ≡ at + (length (spelling x) + length rest) =
-    omega (arith, length-drop at bytes, ap length b.begins, length-append (spelling x) rest, within) in
+    let long = bounds x n (drop at bytes) b in
     record {
-      some = omega (arith, (short x b.fits).0, b.len);
-      within = omega (arith, all, b.len);
+      some = long.0;
+      within = omega (arith, long.1, length-drop at bytes);
       spelled = subst (AreSpelled (items ++ x ∷ [])) (sym both) (one_more items (take at bytes) x so b.fits);
     }
 

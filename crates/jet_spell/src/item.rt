@@ -29,6 +29,7 @@ pub fn write_item(item: &Item, buf: &mut Buf) -> bool
 pub fn read_item(bytes: &[u8]) -> Option<(Item, usize)>
     ensures item { MatchOption result (item_at bytes.now ≡ None) (λ r. item_at bytes.now ≡ Some (r.0, drop r.1 bytes.now)) }
     ensures spelled { IfSome result (λ r. BeginsWith r.0 r.1 bytes.now) }
+    ensures bounds { IfSome result (λ r. (0 < r.1) × (r.1 ≤ length bytes.now)) }
     ensures none { IfNone result (BeginsNone bytes.now) }
     ensures goes_on { IsSpelled bytes.now → 0 < length bytes.now → IsSomeAnd result (λ r. IsSpelled (drop r.1 bytes.now)) }
 {

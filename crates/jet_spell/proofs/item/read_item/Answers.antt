@@ -3,6 +3,7 @@ use Rattle.std.proofs.Math.Facts.{Fits-lt-pow}
 use Rattle.jet_spell.specs.Begins.{BeginsWith, BeginsNone}
 use Rattle.jet_spell.specs.Reading.{item_at}
 use Rattle.jet_spell.proofs.Items.{spelled_so, begins_with, begins_none}
+use Rattle.jet_spell.proofs.Lengths.{bounds}
 use Rattle.jet_spell.proofs.Lists.{goes_on}
 use Rattle.jet_spell.proofs.item.read_item.Goals as goal
 
@@ -33,6 +34,9 @@ returns-clause-item c = read c ∙ ap (λ (l : List ℕ). Some (c.in_ok-item.ite
 
 pub returns-clause-spelled : goal.returns-clause-spelled
 returns-clause-spelled c = (begins c).2
+
+pub returns-clause-bounds : goal.returns-clause-bounds
+returns-clause-bounds c = bounds c.in_ok-item.item (length c.args.bytes.now - c.left.result) c.args.bytes.now (begins c).2
 
 pub returns-clause-goes_on : goal.returns-clause-goes_on
 returns-clause-goes_on c = goes_on c.args.bytes.now (Some (c.in_ok-item.item, length c.args.bytes.now - c.left.result)) (begins c).2
