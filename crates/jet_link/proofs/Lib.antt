@@ -1,0 +1,11 @@
+pub mod Acking
+pub mod Both
+pub mod Counting
+pub mod Ends
+pub mod Fresh
+pub mod Pushing
+pub mod Receipt
+pub mod RecvEnds
+pub mod SendEnds
+pub mod Taking
+pub mod Written

@@ -1,0 +1,7 @@
+pub mod Ends
+pub mod Link
+pub mod Meeting
+pub mod Receiving
+pub mod Sending
+pub mod Shape
+pub mod Views
