@@ -12,6 +12,7 @@ pub mod Held
 pub mod Idles
 pub mod InOrder
 pub mod LateEvents
+pub mod Later
 pub mod Passing
 pub mod Plain
 pub mod PlainLaws

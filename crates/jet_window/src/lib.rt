@@ -32,4 +32,6 @@ pub use stages::{
 #[cfg(test)]
 mod tests_stages;
 #[cfg(test)]
+mod start_tests;
+#[cfg(test)]
 mod tests;
