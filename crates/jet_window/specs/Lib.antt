@@ -16,6 +16,7 @@ pub mod Later
 pub mod Passing
 pub mod Plain
 pub mod PlainLaws
+pub mod Slides
 pub mod StageLaws
 pub mod Tables
 pub mod Taken

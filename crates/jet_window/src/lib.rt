@@ -16,6 +16,7 @@ mod held;
 mod laws;
 mod ordered;
 mod plain;
+mod slide;
 mod stages;
 mod table;
 
@@ -24,11 +25,14 @@ pub use frame::FrameP;
 pub use laws::{closed_rows_stay, rows_end, rows_follow};
 pub use ordered::OrderedRows;
 pub use plain::PlainWindow;
+pub use slide::Slide;
 pub use stages::{
     few_frames, few_rows, frames_sum_kept, instances_give_rows, instances_sum_kept, one_row_each,
     ordered_are_rows, whole_windows,
 };
 
+#[cfg(test)]
+mod slide_tests;
 #[cfg(test)]
 mod tests_stages;
 #[cfg(test)]
