@@ -5,7 +5,7 @@
 //! the frames of each window to a row; the laws of `stages` say that several instances of each give the rows of the
 //! definition. `PlainWindow` does both in one step for one file: it keeps the events of open windows and computes the
 //! rows of a window when a mark closes it; the laws of `laws` say how the rows of one call and the next come together.
-//! `OrderedRows` holds rows until a mark lets them out.
+//! `OrderedRows` holds rows until a mark lets them out, and `Slide` the frames of one key in a window that slides on.
 #![tactic(auto)]
 
 mod combine;
