@@ -23,7 +23,9 @@ use Rattle.jet_stages.specs.Stamp.{unless_idle, but_idle, StampBag}
 use Rattle.jet_stages.specs.StampLaws.{bag_events, bag_others}
 use Rattle.jet_window.specs.FrameStands.{FrameBag}
 use Rattle.jet_window.specs.FrameTables.{frame_of}
-use Rattle.jet_window.specs.CombineStands.{newly, CombineBag}
+use Rattle.jet_window.specs.CombineStands.{CombineBag}
+use Rattle.jet_window.specs.CombineView.{held_frames}
+use Rattle.jet_window.specs.Later.{newly}
 use Rattle.jet_window.specs.LateEvents.{comes_late, brought, late_by, kept_events}
 use Rattle.jet_window.specs.StageLaws.{FramesSumKept}
 use Rattle.jet_window.specs.Taken.{due_after, is_due, is_finished, last_mark, StageInput}
@@ -128,18 +130,18 @@ finish_last (MarkTold t ∷ front) = finish_last front
 finish_last (QueueClosed port q ∷ front) = finish_last front
 finish_last (Finish ∷ front) = refl
 
-combine_ended : (vertex : ℕ) (size slide : ℤ) (held : List FrameValue) (inputs : List InputView) (outputs : List OutputView) (taken : List CallEntry) (given : List Item)
-    → Over (λ taken given. CombineBag vertex size slide None [] held (due_after taken) (StageInput taken) taken given) inputs outputs taken given
-    → EachReceived ClosedItems inputs → rows_of (all_data inputs) ≡ [] → CombineEnded vertex size slide inputs given
-combine_ended vertex size slide held inputs outputs taken given o all none =
+combine_ended : (vertex : ℕ) (size slide : ℤ) (begun last : Option ℤ) (start held : List FrameValue) (inputs : List InputView) (outputs : List OutputView) (taken : List CallEntry) (given : List Item)
+    → Over (λ taken given. CombineBag vertex size slide begun last start held (due_after taken) (StageInput taken) taken given) inputs outputs taken given
+    → EachReceived ClosedItems inputs → rows_of (all_data inputs) ≡ [] → CombineEnded vertex size slide begun start inputs given
+combine_ended vertex size slide begun last start held inputs outputs taken given o all none =
     let no_rows : rows_of (items_of taken) ≡ [] = empty_bag (rows_of (items_of taken)) (subst (λ (rs : List RowValue). SameBag (rows_of (items_of taken)) rs) none (kind_bag as_row (λ m. refl) refl (items_of taken) (all_data inputs) o.told.merged)) in
     let own : rows_of given ≡ o.follows.own = o.follows.alone no_rows in
     record {
       frames = frames_of (items_of taken);
       took = kind_bag as_frame (λ m. refl) refl (items_of taken) (all_data inputs) o.told.merged;
-      dues = newly None (due_after taken);
-      all_due = λ e. ap (λ (b : Bool). b || is_due (last_mark taken) e) (ap is_finished o.parts ∙ finish_last o.front);
-      rows = subst (RowsAre vertex size slide (newly None (due_after taken)) (frames_of (items_of taken))) (sym own) (o.follows.rows (record { closed = o.told.closed all; comes = o.told.comes }));
+      dues = newly begun (due_after taken);
+      all_due = λ e. ap (λ (b : Bool). cond (is_due begun e) false (b || is_due (last_mark taken) e)) (ap is_finished o.parts ∙ finish_last o.front);
+      rows = subst (RowsAre vertex size slide (newly begun (due_after taken)) (start ++ frames_of (items_of taken))) (sym own) (o.follows.rows (record { closed = o.told.closed all; comes = o.told.comes }));
       lates = subst (λ (ls : List LateValue). SameBag ls (lates_of (all_data inputs))) (sym o.follows.lates) (kind_bag as_late (λ m. refl) refl (items_of taken) (all_data inputs) o.told.merged);
     }
 
@@ -160,4 +162,4 @@ ended law (any.Filter t) came given o = stage_ended (filter (passes t.processor.
 ended law (any.Flat t) came given o = stage_ended (flat_map (legs_give t.processor.legs.items)) (λ xs ys h. SameBag-flat_map (legs_give t.processor.legs.items) h) (inputs_view t.inputs.items) (outputs_view t.outputs.items) (told_of t came) given o.0
 ended law (any.Join t) came given o = λ none. join_ended (setting_of t.processor) (inputs_view t.inputs.items) (outputs_view t.outputs.items) (told_of t came) given o.0 none
 ended law (any.Frame t) came given o = λ none. frame_ended law t.processor.vertex t.processor.policy.slide (map (frame_of t.processor.vertex) t.processor.held.entries) (inputs_view t.inputs.items) (outputs_view t.outputs.items) (told_of t came) given o.0 none
-ended law (any.Combine t) came given o = λ closed none. combine_ended t.processor.vertex t.processor.policy.size t.processor.policy.slide (map (frame_of t.processor.vertex) t.processor.held.entries) (inputs_view t.inputs.items) (outputs_view t.outputs.items) (told_of t came) given o.0 closed none
+ended law (any.Combine t) came given o = λ closed none. combine_ended t.processor.vertex t.processor.policy.size t.processor.policy.slide t.processor.begun t.processor.last t.processor.start.items (held_frames t.processor) (inputs_view t.inputs.items) (outputs_view t.outputs.items) (told_of t came) given o.0 closed none

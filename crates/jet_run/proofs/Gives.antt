@@ -1,6 +1,6 @@
 -- What a tasklet of any kind has given so far: what entered its outbox, and what each destination was sent.
 use Rattle.std.proofs.Common.{◌≡◌, ℕ, ◌+◌, ◌≤◌, Bool, true, false, cond, ℤ, List, [], ◌∷◌, ◌++◌, map, sum_by, refl, sym, ◌∙◌, ap, subst, append-nil, append_assoc, inl, inr, arith}
-use Rattle.std.specs.Prelude.{filter, None}
+use Rattle.std.specs.Prelude.{filter, None, Option}
 use Rattle.std.specs.List.{flat_map}
 use Rattle.std.proofs.lemmas.List.Sums.{sum_by-append, sum_by-cons}
 use Rattle.std.proofs.lemmas.List.Concat.{flat_map-append}
@@ -23,7 +23,9 @@ use Rattle.jet_stages.specs.Stage.{StageBag}
 use Rattle.jet_stages.specs.Stamp.{unless_idle, but_idle, StampBag, StampBagAmid}
 use Rattle.jet_stages.specs.StampLaws.{bag_events, bag_others}
 use Rattle.jet_window.specs.FrameTables.{frame_of}
-use Rattle.jet_window.specs.CombineStands.{newly, CombineBag, CombineBagAmid}
+use Rattle.jet_window.specs.CombineStands.{CombineBag, CombineBagAmid}
+use Rattle.jet_window.specs.CombineView.{held_frames}
+use Rattle.jet_window.specs.Later.{newly}
 use Rattle.jet_window.specs.Taken.{due_after, is_due, StageInput}
 use Rattle.jet_tasklet.specs.declared.any.AnyTasklet.{AnyTasklet}
 use Rattle.jet_tasklet.specs.declared.any.AnyTasklet.TheVariants as any
@@ -68,26 +70,26 @@ front_input inputs told taken more is parts all = record {
   comes = λ front entry rest at. is.comes front entry (rest ++ more) (parts ∙ (ap (λ (es : List CallEntry). es ++ more) at ∙ append_assoc front (entry ∷ rest) more));
 }
 
-combine_part : (vertex : ℕ) (size slide : ℤ) (held_yet : List FrameValue) (due : ℤ → Bool) (input : Type 0) (inputs : List InputView) (told taken more : List CallEntry) (given held : List Item) → IsTold inputs told → told ≡ taken ++ more
-    → (EachReceived ClosedItems inputs → input) → CombineBag vertex size slide None [] held_yet due input taken (given ++ held) → CombineGives vertex size slide inputs given
-combine_part vertex size slide held_yet due input inputs told taken more given held is parts in_order h = record {
+combine_part : (vertex : ℕ) (size slide : ℤ) (begun last : Option ℤ) (start held_yet : List FrameValue) (due : ℤ → Bool) (input : Type 0) (inputs : List InputView) (told taken more : List CallEntry) (given held : List Item) → IsTold inputs told → told ≡ taken ++ more
+    → (EachReceived ClosedItems inputs → input) → CombineBag vertex size slide begun last start held_yet due input taken (given ++ held) → CombineGives vertex size slide start inputs given
+combine_part vertex size slide begun last start held_yet due input inputs told taken more given held is parts in_order h = record {
   own = h.own;
   frames = frames_of (items_of taken);
-  due = newly None due;
+  due = newly begun due;
   results = sub_rows inputs told taken more given held h.own is parts h.passed;
   rows = λ all. h.rows (in_order all);
   took = sub_kind as_frame (λ m. refl) refl inputs told taken more (items_of taken) [] is parts (ap frames_of (append-nil (items_of taken)));
   lates = sub_kind as_late (λ m. refl) refl inputs told taken more given held is parts h.lates;
 }
 
-combine_gives : (vertex : ℕ) (size slide : ℤ) (held_yet : List FrameValue) (inputs : List InputView) (told : List CallEntry) (given : List Item)
-    → SoFar (λ taken given. CombineBag vertex size slide None [] held_yet (due_after taken) (StageInput taken) taken given) (λ taken entry given. CombineBagAmid vertex size slide None [] held_yet taken entry given) inputs told given
-    → CombineGives vertex size slide inputs given
-combine_gives vertex size slide held_yet inputs told given so_far =
-    by_state (λ taken given. CombineBag vertex size slide None [] held_yet (due_after taken) (StageInput taken) taken given) (λ taken entry given. CombineBagAmid vertex size slide None [] held_yet taken entry given) (CombineGives vertex size slide inputs) inputs told given
-    (λ taken more given parts h. combine_part vertex size slide held_yet (due_after taken) (StageInput taken) inputs told taken more given [] so_far.told parts (front_input inputs told taken more so_far.told parts)
-    (subst (CombineBag vertex size slide None [] held_yet (due_after taken) (StageInput taken) taken) (sym (append-nil given)) h))
-    (λ taken entry more given parts h. combine_part vertex size slide held_yet (is_due h.until) (StageInput (taken ++ entry ∷ [])) inputs told taken (entry ∷ more) given (map item.Row h.ready) so_far.told parts
+combine_gives : (vertex : ℕ) (size slide : ℤ) (begun last : Option ℤ) (start held_yet : List FrameValue) (inputs : List InputView) (told : List CallEntry) (given : List Item)
+    → SoFar (λ taken given. CombineBag vertex size slide begun last start held_yet (due_after taken) (StageInput taken) taken given) (λ taken entry given. CombineBagAmid vertex size slide begun last start held_yet taken entry given) inputs told given
+    → CombineGives vertex size slide start inputs given
+combine_gives vertex size slide begun last start held_yet inputs told given so_far =
+    by_state (λ taken given. CombineBag vertex size slide begun last start held_yet (due_after taken) (StageInput taken) taken given) (λ taken entry given. CombineBagAmid vertex size slide begun last start held_yet taken entry given) (CombineGives vertex size slide start inputs) inputs told given
+    (λ taken more given parts h. combine_part vertex size slide begun last start held_yet (due_after taken) (StageInput taken) inputs told taken more given [] so_far.told parts (front_input inputs told taken more so_far.told parts)
+    (subst (CombineBag vertex size slide begun last start held_yet (due_after taken) (StageInput taken) taken) (sym (append-nil given)) h))
+    (λ taken entry more given parts h. combine_part vertex size slide begun last start held_yet (is_due h.until) (StageInput (taken ++ entry ∷ [])) inputs told taken (entry ∷ more) given (map item.Row h.ready) so_far.told parts
     (front_input inputs told (taken ++ entry ∷ []) more so_far.told (one_more told taken entry more parts)) h.bag)
     (λ given h. record {
       own = h.own;
@@ -127,7 +129,7 @@ gives (any.Flat t) came gave s =
     (inputs_view t.inputs.items) (told_of t came) (gave ++ t.outbox.items) s
 gives (any.Join t) came gave s = λ rows none whole. join_gives (setting_of t.processor) rows (inputs_view t.inputs.items) (told_of t came) (gave ++ t.outbox.items) s none whole
 gives (any.Frame t) came gave s = frame_gives t.processor.vertex t.processor.policy.slide (map (frame_of t.processor.vertex) t.processor.held.entries) (inputs_view t.inputs.items) (told_of t came) (gave ++ t.outbox.items) s
-gives (any.Combine t) came gave s = combine_gives t.processor.vertex t.processor.policy.size t.processor.policy.slide (map (frame_of t.processor.vertex) t.processor.held.entries) (inputs_view t.inputs.items) (told_of t came) (gave ++ t.outbox.items) s
+gives (any.Combine t) came gave s = combine_gives t.processor.vertex t.processor.policy.size t.processor.policy.slide t.processor.begun t.processor.last t.processor.start.items (held_frames t.processor) (inputs_view t.inputs.items) (told_of t came) (gave ++ t.outbox.items) s
 
 -- ---- what was sent to a destination is a part of what was given
 weigh_if : (w : Item → ℕ) (b : Bool) (x : Item) (xs : List Item) → sum_by w (cond b (x ∷ []) [] ++ xs) ≤ w x + sum_by w xs
@@ -173,8 +175,8 @@ join_part j rows inputs =
       front = λ xs ys h. record { events = events.front xs ys h.events; frames = frames.front xs ys h.frames; results = results.front xs ys h.results; lates = lates.front xs ys h.lates };
     }
 
-combine_passing : (vertex : ℕ) (size slide : ℤ) (inputs : List InputView) → Passing (CombineGives vertex size slide inputs)
-combine_passing vertex size slide inputs = record {
+combine_passing : (vertex : ℕ) (size slide : ℤ) (start : List FrameValue) (inputs : List InputView) → Passing (CombineGives vertex size slide start inputs)
+combine_passing vertex size slide start inputs = record {
   part = λ k deals h.
       let rows = sub_passing as_row (rows_of (all_data inputs) ++ h.own) in
       let lates = sub_passing as_late (lates_of (all_data inputs)) in
@@ -205,7 +207,7 @@ given_passing (any.Join t) = record {
   front = λ xs ys h rows none whole. let p = join_part (setting_of t.processor) rows (inputs_view t.inputs.items) in p.front xs ys (h rows none whole);
 }
 given_passing (any.Frame t) = load_passing (load (all_data (inputs_view t.inputs.items)))
-given_passing (any.Combine t) = combine_passing t.processor.vertex t.processor.policy.size t.processor.policy.slide (inputs_view t.inputs.items)
+given_passing (any.Combine t) = combine_passing t.processor.vertex t.processor.policy.size t.processor.policy.slide t.processor.start.items (inputs_view t.inputs.items)
 
 gives_out : (t : AnyTasklet) (came : List Arrival) (gave : List Item) → AnyKeeps t came gave → Giving gave (waiting t) (outputs_view (outputs_of t))
 gives_out (any.Stamp t) came gave k = k.gives_out

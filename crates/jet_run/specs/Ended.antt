@@ -1,5 +1,5 @@
 -- What each kind of tasklet has given once it has ended, by what its queues received.
-use Rattle.std.specs.Prelude.{◌≡◌, ℕ, Bool, true, ℤ, List, [], ◌++◌, map, filter}
+use Rattle.std.specs.Prelude.{◌≡◌, ℕ, Bool, true, ℤ, Option, List, [], ◌++◌, map, filter}
 use Rattle.std.specs.List.{flat_map}
 use Rattle.jet_items.specs.declared.item.Item.{Item}
 use Rattle.jet_items.specs.Bag.{SameBag}
@@ -13,6 +13,7 @@ use Rattle.jet_expr.specs.Flows.{mapped, passes}
 use Rattle.jet_join.specs.Calls.{setting_of}
 use Rattle.jet_stages.specs.Flat.{legs_give}
 use Rattle.jet_stages.specs.Stamp.{but_idle}
+use Rattle.jet_window.specs.Later.{newly}
 use Rattle.jet_window.specs.WindowRows.{RowsAre}
 use Rattle.jet_tasklet.specs.declared.any.AnyTasklet.{AnyTasklet}
 use Rattle.jet_tasklet.specs.declared.any.AnyTasklet.TheVariants as any
@@ -50,13 +51,14 @@ pub record FrameEnded (vertex : ℕ) (slide : ℤ) (inputs : List InputView) (gi
   pub rows : rows_of given ≡ []
   pub events : events_of given ≡ []
 
--- the second stage: the rows of all windows over the frames
-pub record CombineEnded (vertex : ℕ) (size slide : ℤ) (inputs : List InputView) (given : List Item) : Type 0 where
+-- the second stage, which began with this mark and these frames or with none: the rows of all windows that end above that mark,
+-- over its first frames and those that came
+pub record CombineEnded (vertex : ℕ) (size slide : ℤ) (begun : Option ℤ) (start : List FrameValue) (inputs : List InputView) (given : List Item) : Type 0 where
   pub frames : List FrameValue
   pub took : SameBag frames (frames_of (all_data inputs))
   pub dues : ℤ → Bool
-  pub all_due : (e : ℤ) → dues e ≡ true
-  pub rows : RowsAre vertex size slide dues frames (rows_of given)
+  pub all_due : (e : ℤ) → dues e ≡ newly begun (λ d. true) e
+  pub rows : RowsAre vertex size slide dues (start ++ frames) (rows_of given)
   pub lates : SameBag (lates_of given) (lates_of (all_data inputs))
 
 -- what a tasklet of any kind gave: a join where no event came by a build queue, a first stage where only events came, a second
@@ -70,4 +72,4 @@ EndedByKind (any.Join t) given = events_of (data_received Build (inputs_view t.i
 EndedByKind (any.Frame t) given = others_of (all_data (inputs_view t.inputs.items)) ≡ [] → FrameEnded t.processor.vertex t.processor.policy.slide (inputs_view t.inputs.items) given
 EndedByKind (any.Combine t) given =
     EachReceived Closed (inputs_view t.inputs.items) → rows_of (all_data (inputs_view t.inputs.items)) ≡ []
-    → CombineEnded t.processor.vertex t.processor.policy.size t.processor.policy.slide (inputs_view t.inputs.items) given
+    → CombineEnded t.processor.vertex t.processor.policy.size t.processor.policy.slide t.processor.begun t.processor.start.items (inputs_view t.inputs.items) given

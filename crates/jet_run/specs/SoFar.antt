@@ -41,13 +41,14 @@ pub record JoinGives (j : Joining) (rows : List SideValue) (inputs : List InputV
   pub results : SubBag (rows_of given) (rows_of (all_data inputs))
   pub lates : SubBag (lates_of given) (lates_of (all_data inputs))
 
--- a second stage: of the rows none but those that came and its own, which are the rows of some windows over frames that came
-pub record CombineGives (vertex : ℕ) (size slide : ℤ) (inputs : List InputView) (given : List Item) : Type 0 where
+-- a second stage, which began with these frames or with none: of the rows none but those that came and its own, which are the rows
+-- of some windows over its first frames and frames that came
+pub record CombineGives (vertex : ℕ) (size slide : ℤ) (start : List FrameValue) (inputs : List InputView) (given : List Item) : Type 0 where
   pub own : List RowValue
   pub frames : List FrameValue
   pub due : ℤ → Bool
   pub results : SubBag (rows_of given) (rows_of (all_data inputs) ++ own)
-  pub rows : EachReceived Closed inputs → RowsAre vertex size slide due frames own
+  pub rows : EachReceived Closed inputs → RowsAre vertex size slide due (start ++ frames) own
   pub took : SubBag frames (frames_of (all_data inputs))
   pub lates : SubBag (lates_of given) (lates_of (all_data inputs))
 
@@ -67,4 +68,4 @@ GivesByKind (any.Join t) given =
     → (all_done Build (inputs_view t.inputs.items) ≡ true → SameBag (sides_of (data_received Build (inputs_view t.inputs.items))) rows)
     → JoinGives (setting_of t.processor) rows (inputs_view t.inputs.items) given
 GivesByKind (any.Frame t) given = load given ≤ load (all_data (inputs_view t.inputs.items))
-GivesByKind (any.Combine t) given = CombineGives t.processor.vertex t.processor.policy.size t.processor.policy.slide (inputs_view t.inputs.items) given
+GivesByKind (any.Combine t) given = CombineGives t.processor.vertex t.processor.policy.size t.processor.policy.slide t.processor.start.items (inputs_view t.inputs.items) given

@@ -1,7 +1,9 @@
 -- The calls of a combine vertex, whole.
-use Rattle.std.proofs.Common.{◌≡◌, ℕ, Bool, true, false, ◌&&◌, ℤ, List, [], ◌∷◌, ◌++◌, Some, Result, Ok, Err, refl, sym, ◌∙◌, ap, subst, length, append-nil, append_assoc}
+use Rattle.std.proofs.Common.{◌≡◌, ℕ, Bool, true, false, ◌&&◌, ℤ, List, [], ◌∷◌, ◌++◌, Option, Some, Result, Ok, Err, refl, sym, ◌∙◌, ap, subst, length, append-nil, append_assoc}
 use Rattle.std.specs.Prelude.{bytes_eq, IsErr, OnErr}
-use Rattle.jet_items.specs.Values.{FrameValue}
+use Rattle.jet_items.specs.Values.{AccValue, FrameValue}
+use Rattle.jet_items.specs.Totals.{both, total}
+use Rattle.jet_items.proofs.Covering.{Decides-covers}
 use Rattle.jet_items.specs.Frames.{covers}
 use Rattle.jet_items.specs.Ranges.{IsWithin, most_frame_end}
 use Rattle.jet_items.specs.declared.item.Item.{Item}
@@ -14,13 +16,16 @@ use Rattle.jet_boxes.specs.Held.{BoxView}
 use Rattle.jet_window.specs.CombineCalls.{Stands, Amid, Alike}
 use Rattle.jet_window.specs.declared.combine.CombineP.{CombineP}
 use Rattle.jet_window.specs.Tables.{Place, place_cmp}
-use Rattle.jet_window.specs.FrameTables.{Table, joined_in, IsKept}
-use Rattle.jet_window.specs.Combining.{Clear, Passes, OpenAbove}
-use Rattle.jet_window.specs.CombineStands.{IsFrame, Combine, CombineStands, CombineAmid, Gave, Finishing}
+use Rattle.jet_window.specs.FrameTables.{Table, joined_in, held_in, IsKept}
+use Rattle.jet_window.specs.Combining.{Clear, Passes, OpenAbove, IsOver}
+use Rattle.jet_window.specs.Later.{later_of}
+use Rattle.jet_window.specs.Taken.{is_due, InOpenWindow}
+use Rattle.jet_window.specs.CombineStands.{IsFrame, Combine, Start, CombineStands, Gave, Marking, Finishing}
 use Rattle.jet_window.proofs.Standing.{marking_gave, finishing_gave, stands_mark, stands_finish, stands_frame, stands_pass, stands_close}
-use Rattle.jet_window.specs.CombineView.{combine_of}
+use Rattle.jet_window.specs.CombineView.{combine_of, start_of, SameRest}
 use Rattle.jet_window.proofs.Tabling.{place_total, place_equal, total-joined_in, ordered_insert, each_insert}
-use Rattle.jet_window.proofs.Giving.{same_combine}
+use Rattle.jet_window.proofs.Fitting.{share_none}
+use Rattle.jet_window.proofs.Giving.{same_combine, same_start, at_rest}
 
 not_true : false ≡ true → ⊥
 not_true h = absurd (cc)
@@ -36,54 +41,63 @@ partial p taken entry given (Ok true) h k = absurd (h refl)
 partial p taken entry given (Ok false) h k = k
 partial p taken entry given (Err e) h k = k
 
-pub mark_partial : (p q : CombineP) (t : ℤ) (before after : BoxView) (r : Result Bool NoMemory) → q.policy ≡ p.policy → Gave (combine_of p) before.items (combine_of q) after.items → (Passes p.passed t → Passes q.passed t) → after.room ≡ before.room → (r ≡ Ok true → ⊥) → (r ≡ Ok false → length after.items ≡ after.room) → Call Stands Amid Alike false p (MarkTold t) before r q after
-mark_partial p q t before after r policy gave bound room not full = record {
+-- the bound at the mark of the argument is the one at the later of the two marks
+pub bound_until : (a b : Option ℤ) (t u : ℤ) (next : Option ℤ) → t ≡ u → Some u ≡ next → (Passes a (Some t) → Passes b (Some t)) → Passes a next → Passes b next
+bound_until a b t u next is up h = subst (λ (o : Option ℤ). Passes a o → Passes b o) (ap Some is ∙ up) h
+
+pub mark_partial : (p q : CombineP) (t : ℤ) (before after : BoxView) (r : Result Bool NoMemory) → SameRest p q → Gave (combine_of p) before.items (combine_of q) after.items → (Passes p.passed (later_of p.begun (Some t)) → Passes q.passed (later_of p.begun (Some t))) → after.room ≡ before.room → (r ≡ Ok true → ⊥) → (r ≡ Ok false → length after.items ≡ after.room) → Call Stands Amid Alike false p (MarkTold t) before r q after
+mark_partial p q t before after r rest gave bound room not full = record {
   put = gave.put;
-  settings = (gave.vertex, policy);
+  settings = (rest.vertex, rest.policy, rest.begun, rest.start);
   room = room;
   puts = gave.puts;
   full = full;
   wants = may_want r;
-  keeps = λ taken given h. partial q taken (MarkTold t) (given ++ gave.put) r not (marking_gave (combine_of p) before.items (combine_of q) after.items taken t given gave bound h);
+  keeps = λ taken given h. partial q taken (MarkTold t) (given ++ gave.put) r not
+      (at_rest p q rest (λ s last. Marking s last (combine_of q) taken t (given ++ gave.put)) (marking_gave (start_of p) p.last (combine_of p) before.items (combine_of q) after.items taken t given gave bound h));
 }
 
-pub mark_whole : (p q s : CombineP) (t : ℤ) (before middle after : BoxView) → q.policy ≡ p.policy → Gave (combine_of p) before.items (combine_of q) middle.items → (Passes p.passed t → Passes q.passed t) → middle.room ≡ before.room
-    → q.ready.entries ≡ [] → Clear q.policy.size q.policy.slide q.passed q.held.entries t → OpenAbove q.policy.size q.policy.slide t q.held.entries
-    → s.vertex ≡ q.vertex → s.policy ≡ q.policy → s.passed ≡ Some t → s.end ≡ q.end → s.held ≡ q.held → s.ready ≡ q.ready
+pub mark_whole : (p q z : CombineP) (t u : ℤ) (before middle after : BoxView) → SameRest p q → Gave (combine_of p) before.items (combine_of q) middle.items → (Passes p.passed (later_of p.begun (Some t)) → Passes q.passed (later_of p.begun (Some t))) → middle.room ≡ before.room
+    → Some u ≡ later_of p.begun (Some t) → q.ready.entries ≡ [] → Clear q.policy.size q.policy.slide q.passed q.held.entries u → OpenAbove q.policy.size q.policy.slide u q.held.entries
+    → z.vertex ≡ q.vertex → z.policy ≡ q.policy → z.begun ≡ q.begun → z.start ≡ q.start → z.last ≡ Some t → z.passed ≡ Some u → z.end ≡ q.end → z.held ≡ q.held → z.ready ≡ q.ready
     → after.room ≡ middle.room → after.items ≡ middle.items ++ item.Mark t ∷ []
-    → Call Stands Amid Alike false p (MarkTold t) before (Ok true) s after
-mark_whole p q s t before middle after policy gave bound room none clear above v o w e h r room' items =
-    let same : record (combine_of q) { passed = Some t } ≡ combine_of s = same_combine _ _ _ _ _ _ _ _ _ _ _ _ _ _ (sym v) (sym (ap (λ x. x.size) o)) (sym (ap (λ x. x.slide) o)) (sym w) (sym e) (sym (ap (λ x. x.entries) h)) (sym (ap (λ x. x.entries) r)) in
+    → Call Stands Amid Alike false p (MarkTold t) before (Ok true) z after
+mark_whole p q z t u before middle after rest gave bound room up none clear above v o b f l w e h r room' items =
+    let same : record (combine_of q) { passed = Some u } ≡ combine_of z = same_combine _ _ _ _ _ _ _ _ _ _ _ _ _ _ (sym v) (sym (ap (λ x. x.size) o)) (sym (ap (λ x. x.slide) o)) (sym w) (sym e) (sym (ap (λ x. x.entries) h)) (sym (ap (λ x. x.entries) r)) in
+    let begins : start_of p ≡ start_of z = same_start p z (b ∙ rest.begun) (f ∙ rest.start) in
     record {
       put = gave.put ++ item.Mark t ∷ [];
-      settings = (v ∙ gave.vertex, o ∙ policy);
+      settings = (v ∙ rest.vertex, o ∙ rest.policy, b ∙ rest.begun, f ∙ rest.start);
       room = room' ∙ room;
       puts = items ∙ (ap (λ (xs : List Item). xs ++ item.Mark t ∷ []) gave.puts ∙ append_assoc before.items gave.put (item.Mark t ∷ []));
       full = λ f. absurd (never f);
       wants = tt;
       keeps = λ taken given k.
-          subst (λ (xs : List Item). CombineStands (combine_of s) (taken ++ MarkTold t ∷ []) xs) (append_assoc given gave.put (item.Mark t ∷ []))
-          (subst (λ (z : Combine). CombineStands z (taken ++ MarkTold t ∷ []) ((given ++ gave.put) ++ item.Mark t ∷ [])) same
-          (stands_mark (combine_of q) taken t (given ++ gave.put) none clear above (marking_gave (combine_of p) before.items (combine_of q) middle.items taken t given gave bound k)));
+          subst (λ (xs : List Item). CombineStands (start_of z) z.last (combine_of z) (taken ++ MarkTold t ∷ []) xs) (append_assoc given gave.put (item.Mark t ∷ []))
+          (subst (λ (x : Combine). CombineStands (start_of z) z.last x (taken ++ MarkTold t ∷ []) ((given ++ gave.put) ++ item.Mark t ∷ [])) same
+          (subst (λ (s : Start). CombineStands s z.last (record (combine_of q) { passed = Some u }) (taken ++ MarkTold t ∷ []) ((given ++ gave.put) ++ item.Mark t ∷ [])) begins
+          (subst (λ (last : Option ℤ). CombineStands (start_of p) last (record (combine_of q) { passed = Some u }) (taken ++ MarkTold t ∷ []) ((given ++ gave.put) ++ item.Mark t ∷ [])) (sym l)
+          (stands_mark (start_of p) p.last (combine_of q) taken t u (given ++ gave.put) up none clear above (marking_gave (start_of p) p.last (combine_of p) before.items (combine_of q) middle.items taken t given gave bound k)))));
     }
   where
     never : (let yes : Result Bool NoMemory = Ok true in yes ≡ Ok false) → ⊥
     never f = absurd (cc)
 
-finish_outcome : (q : CombineP) (taken : List CallEntry) (given : List Item) (r : Result Bool NoMemory) → (r ≡ Ok true → q.ready.entries ≡ []) → (r ≡ Ok true → q.held.entries ≡ []) → Finishing (combine_of q) taken given → Outcome Stands Amid q taken Finish given r
-finish_outcome q taken given (Ok true) none empty k = stands_finish (combine_of q) taken given (none refl) (empty refl) k
+finish_outcome : (q : CombineP) (taken : List CallEntry) (given : List Item) (r : Result Bool NoMemory) → (r ≡ Ok true → q.ready.entries ≡ []) → (r ≡ Ok true → q.held.entries ≡ []) → Finishing (start_of q) q.last (combine_of q) taken given → Outcome Stands Amid q taken Finish given r
+finish_outcome q taken given (Ok true) none empty k = stands_finish (start_of q) q.last (combine_of q) taken given (none refl) (empty refl) k
 finish_outcome q taken given (Ok false) none empty k = k
 finish_outcome q taken given (Err e) none empty k = k
 
-pub finish_call : (p q : CombineP) (before after : BoxView) (r : Result Bool NoMemory) → q.policy ≡ p.policy → Gave (combine_of p) before.items (combine_of q) after.items → after.room ≡ before.room → (r ≡ Ok true → q.ready.entries ≡ []) → (r ≡ Ok true → q.held.entries ≡ []) → (r ≡ Ok false → length after.items ≡ after.room) → Call Stands Amid Alike false p Finish before r q after
-finish_call p q before after r policy gave room none empty full = record {
+pub finish_call : (p q : CombineP) (before after : BoxView) (r : Result Bool NoMemory) → SameRest p q → Gave (combine_of p) before.items (combine_of q) after.items → after.room ≡ before.room → (r ≡ Ok true → q.ready.entries ≡ []) → (r ≡ Ok true → q.held.entries ≡ []) → (r ≡ Ok false → length after.items ≡ after.room) → Call Stands Amid Alike false p Finish before r q after
+finish_call p q before after r rest gave room none empty full = record {
   put = gave.put;
-  settings = (gave.vertex, policy);
+  settings = (rest.vertex, rest.policy, rest.begun, rest.start);
   room = room;
   puts = gave.puts;
   full = full;
   wants = may_want r;
-  keeps = λ taken given h. finish_outcome q taken (given ++ gave.put) r none empty (finishing_gave (combine_of p) before.items (combine_of q) after.items taken given gave h);
+  keeps = λ taken given h. finish_outcome q taken (given ++ gave.put) r none empty
+      (at_rest p q rest (λ s last. Finishing s last (combine_of q) taken (given ++ gave.put)) (finishing_gave (start_of p) p.last (combine_of p) before.items (combine_of q) after.items taken given gave h));
 }
 
 -- ---- what is accepted
@@ -93,23 +107,43 @@ grows size held f range h = record {
   ranges = each_insert place_cmp place_total place_equal (λ (z : Place). IsWithin most_frame_end z.0) (f.end, f.key) _ held h.ranges range;
 }
 
-pub frame_call : (p s : CombineP) (port : Port) (queue : ℕ) (f : FrameValue) (before : BoxView) → IsWithin most_frame_end f.end → s.vertex ≡ p.vertex → s.policy ≡ p.policy → s.passed ≡ p.passed → s.end ≡ p.end → s.ready ≡ p.ready → s.held.entries ≡ joined_in p.held.entries (f.end, f.key) f.acc → Call Stands Amid Alike false p (Given port queue (item.Frame f)) before (Ok true) s before
-frame_call p s port queue f before range v o w e r h =
+pub frame_call : (p z : CombineP) (port : Port) (queue : ℕ) (f : FrameValue) (before : BoxView) → IsWithin most_frame_end f.end → InOpenWindow p.policy.size p.policy.slide (is_due p.begun) f.end
+    → SameRest p z → z.passed ≡ p.passed → z.end ≡ p.end → z.ready ≡ p.ready → z.held.entries ≡ joined_in p.held.entries (f.end, f.key) f.acc → Call Stands Amid Alike false p (Given port queue (item.Frame f)) before (Ok true) z before
+frame_call p z port queue f before range in_window rest w e r h =
     let new : Table = joined_in p.held.entries (f.end, f.key) f.acc in
-    let same : record (combine_of p) { held = new } ≡ combine_of s = same_combine _ _ _ _ _ _ _ _ _ _ _ _ _ _ (sym v) (sym (ap (λ x. x.size) o)) (sym (ap (λ x. x.slide) o)) (sym w) (sym e) (sym h) (sym (ap (λ x. x.entries) r)) in
+    let same : record (combine_of p) { held = new } ≡ combine_of z = same_combine _ _ _ _ _ _ _ _ _ _ _ _ _ _ (sym rest.vertex) (sym (ap (λ x. x.size) rest.policy)) (sym (ap (λ x. x.slide) rest.policy)) (sym w) (sym e) (sym h) (sym (ap (λ x. x.entries) r)) in
     record {
       put = [];
-      settings = (v, o);
+      settings = (rest.vertex, rest.policy, rest.begun, rest.start);
       room = refl;
       puts = sym (append-nil before.items);
       full = λ g. absurd (never g);
       wants = tt;
-      keeps = λ taken given k. subst (λ (z : Combine). CombineStands z (taken ++ Given port queue (item.Frame f) ∷ []) (given ++ [])) same
-          (stands_frame (combine_of p) taken given port queue f new
-          (λ d key kept. total-joined_in (λ z. bytes_eq z.1 key && covers p.policy.size d z.0) (f.end, f.key) f.acc p.held.entries kept.ordered)
+      keeps = λ taken given k. at_rest p z rest (λ s last. CombineStands s last (combine_of z) (taken ++ Given port queue (item.Frame f) ∷ []) (given ++ []))
+          (subst (λ (x : Combine). CombineStands (start_of p) p.last x (taken ++ Given port queue (item.Frame f) ∷ []) (given ++ [])) same
+          (stands_frame (start_of p) p.last (combine_of p) taken given port queue f new
+          (λ d key kept m b. total-joined_in (λ z. bytes_eq z.1 key && covers p.policy.size d z.0) (f.end, f.key) f.acc p.held.entries kept.ordered)
           (grows p.policy.size p.held.entries f range)
-          (λ P old here. each_insert place_cmp place_total place_equal P (f.end, f.key) _ p.held.entries old here) k);
+          (λ due above old. each_insert place_cmp place_total place_equal (λ (z : Place). InOpenWindow p.policy.size p.policy.slide due z.0) (f.end, f.key) _ p.held.entries old
+          (in_window.0, in_window.1, in_window.2, above in_window.0 in_window.3 ((Decides-covers p.policy.size in_window.0 f.end).0 in_window.2).1)) k));
     }
+  where
+    never : (let yes : Result Bool NoMemory = Ok true in yes ≡ Ok false) → ⊥
+    never g = absurd (cc)
+
+-- a frame of which no window is left is not kept
+pub over_call : (p : CombineP) (port : Port) (queue : ℕ) (f : FrameValue) (before : BoxView) → IsOver p.policy.size p.policy.slide p.begun f.end → Call Stands Amid Alike false p (Given port queue (item.Frame f)) before (Ok true) p before
+over_call p port queue f before over = record {
+  put = [];
+  settings = (refl, refl, refl, refl);
+  room = refl;
+  puts = sym (append-nil before.items);
+  full = λ g. absurd (never g);
+  wants = tt;
+  keeps = λ taken given k. stands_frame (start_of p) p.last (combine_of p) taken given port queue f p.held.entries
+      (λ d key kept m b. ap (λ (o : Option AccValue). both o (total (held_in p.policy.size d key) p.held.entries)) (sym (share_none (bytes_eq f.key key) (covers p.policy.size d f.end) f.acc (over d m b))))
+      (λ kept. kept) (λ due above old. old) k;
+}
   where
     never : (let yes : Result Bool NoMemory = Ok true in yes ≡ Ok false) → ⊥
     never g = absurd (cc)
@@ -117,12 +151,12 @@ frame_call p s port queue f before range v o w e r h =
 pub pass_call : (p : CombineP) (port : Port) (queue : ℕ) (x : Item) (before after : BoxView) → (IsFrame x → ⊥) → IsData x → after.room ≡ before.room → after.items ≡ before.items ++ x ∷ [] → Call Stands Amid Alike false p (Given port queue x) before (Ok true) p after
 pass_call p port queue x before after not data_is room items = record {
   put = x ∷ [];
-  settings = (refl, refl);
+  settings = (refl, refl, refl, refl);
   room = room;
   puts = items;
   full = λ g. absurd (never g);
   wants = tt;
-  keeps = λ taken given k. stands_pass (combine_of p) taken given port queue x not data_is k;
+  keeps = λ taken given k. stands_pass (start_of p) p.last (combine_of p) taken given port queue x not data_is k;
 }
   where
     never : (let yes : Result Bool NoMemory = Ok true in yes ≡ Ok false) → ⊥
@@ -149,28 +183,28 @@ err_not_ok (Err e) b h k = absurd (cc)
 pub close_call : (p : CombineP) (port : Port) (queue : ℕ) (before : BoxView) → Call Stands Amid Alike false p (QueueClosed port queue) before (Ok true) p before
 close_call p port queue before = record {
   put = [];
-  settings = (refl, refl);
+  settings = (refl, refl, refl, refl);
   room = refl;
   puts = sym (append-nil before.items);
   full = λ g. absurd (never g);
   wants = tt;
-  keeps = λ taken given k. subst (Stands p (taken ++ QueueClosed port queue ∷ [])) (sym (append-nil given)) (stands_close (combine_of p) taken given port queue k);
+  keeps = λ taken given k. subst (Stands p (taken ++ QueueClosed port queue ∷ [])) (sym (append-nil given)) (stands_close (start_of p) p.last (combine_of p) taken given port queue k);
 }
   where
     never : (let yes : Result Bool NoMemory = Ok true in yes ≡ Ok false) → ⊥
     never g = absurd (cc)
 
 -- nothing was put: there was no room, or memory was wanted
-pub nothing_call : (p s : CombineP) (port : Port) (queue : ℕ) (x : Item) (before : BoxView) (r : Result Bool NoMemory) → (r ≡ Ok true → ⊥) → (r ≡ Ok false → length before.items ≡ before.room) → s.vertex ≡ p.vertex → s.policy ≡ p.policy → s.passed ≡ p.passed → s.end ≡ p.end → s.held.entries ≡ p.held.entries → s.ready ≡ p.ready → Call Stands Amid Alike false p (Given port queue x) before r s before
-nothing_call p s port queue x before r not full v o w e h ready =
-    let same : combine_of p ≡ combine_of s = same_combine _ _ _ _ _ _ _ _ _ _ _ _ _ _ (sym v) (sym (ap (λ x. x.size) o)) (sym (ap (λ x. x.slide) o)) (sym w) (sym e) (sym h) (sym (ap (λ x. x.entries) ready)) in
+pub nothing_call : (p z : CombineP) (port : Port) (queue : ℕ) (x : Item) (before : BoxView) (r : Result Bool NoMemory) → (r ≡ Ok true → ⊥) → (r ≡ Ok false → length before.items ≡ before.room) → SameRest p z → z.passed ≡ p.passed → z.end ≡ p.end → z.held.entries ≡ p.held.entries → z.ready ≡ p.ready → Call Stands Amid Alike false p (Given port queue x) before r z before
+nothing_call p z port queue x before r not full rest w e h ready =
+    let same : combine_of p ≡ combine_of z = same_combine _ _ _ _ _ _ _ _ _ _ _ _ _ _ (sym rest.vertex) (sym (ap (λ x. x.size) rest.policy)) (sym (ap (λ x. x.slide) rest.policy)) (sym w) (sym e) (sym h) (sym (ap (λ x. x.entries) ready)) in
     record {
       put = [];
-      settings = (v, o);
+      settings = (rest.vertex, rest.policy, rest.begun, rest.start);
       room = refl;
       puts = sym (append-nil before.items);
       full = full;
       wants = may_want r;
-      keeps = λ taken given k. partial s taken (Given port queue x) (given ++ []) r not
-          (subst (λ (z : Combine). CombineStands z taken (given ++ [])) same (subst (λ (xs : List Item). CombineStands (combine_of p) taken xs) (sym (append-nil given)) k));
+      keeps = λ taken given k. partial z taken (Given port queue x) (given ++ []) r not (at_rest p z rest (λ s last. CombineStands s last (combine_of z) taken (given ++ []))
+          (subst (λ (x : Combine). CombineStands (start_of p) p.last x taken (given ++ [])) same (subst (λ (xs : List Item). CombineStands (start_of p) p.last (combine_of p) taken xs) (sym (append-nil given)) k)));
     }

@@ -1,6 +1,6 @@
 -- How many windows an event is in, and how many frames and rows there are.
-use Rattle.std.proofs.Common.{◌≡◌, ℕ, zero, suc, ◌+◌, ◌*◌, ◌/◌, ◌%◌, ◌<◌, ◌≤◌, Bool, true, false, cond, ◌&&◌, ℤ, pos, ◌+ℤ◌, ◌-ℤ◌, ◌<ℤ◌, ◌≤ℤ◌, List, [], ◌∷◌, ◌++◌, length, sum_by, refl, sym, ◌∙◌, ap, subst, arith, Option, Some, None}
-use Rattle.std.specs.Prelude.{bytes_eq, negsuc, unsigned_abs}
+use Rattle.std.proofs.Common.{◌≡◌, ℕ, zero, suc, ◌+◌, ◌*◌, ◌/◌, ◌%◌, ◌≤◌, Bool, true, false, cond, ◌&&◌, ℤ, pos, ◌+ℤ◌, ◌-ℤ◌, ◌<ℤ◌, ◌≤ℤ◌, List, [], ◌∷◌, ◌++◌, length, sum_by, refl, sym, ◌∙◌, ap, subst, arith, Option, None}
+use Rattle.std.specs.Prelude.{bytes_eq, negsuc}
 use Rattle.std.specs.declared.cmp.Ordering.{Ordering}
 use Rattle.std.specs.declared.cmp.Ordering.TheVariants.{Less, Equal, Greater}
 use Rattle.std.specs.Ordering.{int_eq}
@@ -22,12 +22,11 @@ use Rattle.jet_items.specs.Totals.{total, both}
 use Rattle.jet_items.specs.Values.{AccValue, FrameValue, RowValue}
 use Rattle.jet_items.proofs.Covering.{Decides-covers}
 use Rattle.jet_items.proofs.GridLemmas.{multiple_apart}
-use Rattle.jet_policy.specs.Policy.{IsPolicy}
 use Rattle.jet_boxes.specs.Entry.{items_of}
 use Rattle.jet_window.specs.Idles.{idles_of}
 use Rattle.jet_window.specs.LateEvents.{kept_events}
 use Rattle.jet_window.specs.StageLaws.{slides, windows_of, WholeWindows, FewRows, FewFrames}
-use Rattle.jet_window.specs.Tables.{Place, place_cmp, is_multiple}
+use Rattle.jet_window.specs.Tables.{place_cmp, is_multiple}
 use Rattle.jet_window.specs.WindowRows.{as_list, row_at, rows_at, Rises, RowsAre}
 use Rattle.jet_window.proofs.Ending.{place_less, multiple_fact}
 use Rattle.jet_window.proofs.Stepping.{place_total}

@@ -12,7 +12,8 @@ use Rattle.std.proofs.lemmas.Int.{ints, by_lt_z}
 use Rattle.std.proofs.lemmas.Bool.Decides.{Decides-int_eq}
 use Rattle.jet_items.specs.Grid.{IsMultiple, IsFrameEnd, IsFloor, floor_to}
 use Rattle.std.proofs.lemmas.Slice.Eq.{bytes_eq-Decides}
-use Rattle.jet_policy.specs.Policy.{IsPolicy}
+use Rattle.jet_policy.specs.Policy.{IsPolicy, IsLastEnd}
+use Rattle.jet_policy.proofs.LastEnd.{last_end_is}
 use Rattle.jet_items.proofs.GridLemmas.{floor_is, frame_end_is, multiple_apart, rem_bounds}
 use Rattle.jet_items.proofs.Covering.{Decides-int_lt, Decides-int_le, Decides-covers, false_from, not_so}
 use Rattle.jet_items.specs.Values.{AccValue}
@@ -23,7 +24,7 @@ use Rattle.jet_window.specs.Tables.{Place, place_cmp}
 use Rattle.jet_window.specs.FrameTables.{Table, held_in, Ordered, IsKept}
 use Rattle.jet_window.specs.Tables.{is_multiple}
 use Rattle.jet_window.specs.Taken.{is_due, InOpenWindow}
-use Rattle.jet_window.specs.Combining.{Forgets}
+use Rattle.jet_window.specs.Combining.{Forgets, IsOver}
 use Rattle.jet_window.specs.inner.NextEnds.{IsEndAbove, IsNextEnd, HeldUntil}
 
 -- the test and the fact
@@ -159,6 +160,28 @@ window_above size slide end grid =
     let later : end ≤ℤ e = omega (arith, ints) in
     let within : (e -ℤ size) <ℤ end = omega (arith, ints) in
     (e, multiple_test slide e grid.slide_low next.multiple, (Decides-covers size e end).1 (within, later), later)
+
+-- a frame at a multiple lies in the window that ends its size less its slide later
+pub open_at : (size slide : ℤ) (due : ℤ → Bool) (end : ℤ) → IsPolicy size slide → is_multiple slide end ≡ true → due ((end +ℤ size) -ℤ slide) ≡ false → InOpenWindow size slide due end
+open_at size slide due end grid m o =
+    let e : ℤ = (end +ℤ size) -ℤ slide in
+    let low = grid.slide_low in
+    let most : slide ≤ℤ size = whole_slide size slide grid in
+    let is : IsLastEnd size slide end e = last_end_is size slide end grid (multiple_fact slide end low m) in
+    let within : (e -ℤ size) <ℤ end = omega (arith, ints) in
+    let later : end ≤ℤ e = omega (arith, ints) in
+    (e, multiple_test slide e low is.multiple, (Decides-covers size e end).1 (within, later), o)
+
+-- where the first end is in a window, that window; else no window of the frame is left
+pub has_open : (size slide : ℤ) (begun : Option ℤ) (end e : ℤ) → IsEndAbove slide begun end e → e <ℤ (end +ℤ size) → InOpenWindow size slide (is_due begun) end
+has_open size slide begun end e up lt =
+    let low : end ≤ℤ e = up.at_least in
+    let within : (e -ℤ size) <ℤ end = omega (arith, ints) in
+    (e, up.multiple, (Decides-covers size e end).1 (within, low), up.later)
+
+pub has_none : (size slide : ℤ) (begun : Option ℤ) (end e : ℤ) → IsEndAbove slide begun end e → (end +ℤ size) ≤ℤ e → IsOver size slide begun end
+has_none size slide begun end e up le = λ d m due.
+    false_from (covers size d end) (Decides-covers size d end) (λ c. let p = c.0 in let q = c.1 in let low : e ≤ℤ d = up.least d m due q in absurd (omega (arith, ints)))
 
 not_before : (d e : ℤ) → e ≤ℤ d → int_lt d e ≡ false
 not_before d e h = false_from (int_lt d e) (Decides-int_lt d e) (λ lt. absurd (omega (arith, ints)))

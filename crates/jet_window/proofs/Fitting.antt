@@ -19,7 +19,8 @@ use Rattle.jet_window.specs.FrameTables.{Table, held_in}
 use Rattle.jet_window.specs.Tables.{is_multiple}
 use Rattle.jet_window.specs.Taken.{is_due}
 use Rattle.jet_window.specs.WindowRows.{as_list, row_at, rows_at, Rises}
-use Rattle.jet_window.specs.Combining.{row_of, accs_at, Fits, TakesUp, Clear, Passes, Forgets}
+use Rattle.jet_window.specs.Combining.{row_of, accs_at, Fits, TakesUp, Passes, Forgets}
+use Rattle.jet_window.specs.Later.{newly}
 
 -- ---- what is due
 pub due_more : (passed : Option ℤ) (e d : ℤ) → is_due passed e ≡ false → is_due passed d ≡ true → d <ℤ e
@@ -75,43 +76,63 @@ and_false true c h = h
 and_false false c h = refl
 
 -- ---- a window is taken up
--- below the window nothing is new
-pub below_case : (m b : Bool) (t : Option AccValue) → (m ≡ true → b ≡ false → t ≡ None) → as_list (cond (m && b) t None) ≡ as_list (cond (m && true) t None)
-below_case true true t h = refl
-below_case true false t h = rw (h refl refl) refl
-below_case false b t h = refl
+-- below the window nothing is new: what was not due before has no frame
+pub below_case : (g m b : Bool) (t : Option AccValue) → (m ≡ true → b ≡ false → t ≡ None) → as_list (cond (m && cond g false b) t None) ≡ as_list (cond (m && cond g false true) t None)
+below_case true m b t h = refl
+below_case false true true t h = refl
+below_case false true false t h = rw (h refl refl) refl
+below_case false false b t h = refl
 
-up_each : (vertex : ℕ) (size slide : ℤ) (passed : Option ℤ) (held : Table) (frames : List FrameValue) (rows : List RowValue) (e : ℤ) (ready : List (List ℕ × AccValue)) (rest : Table)
-    → Fits vertex size slide passed held frames rows → TakesUp size slide passed held e ready rest
-    → (d : ℤ) (key : List ℕ) → rows_at d key (rows ++ map (row_of vertex e) ready) ≡ as_list (cond (is_multiple slide d && is_due (Some e) d) (total (frame_in size d key) frames) None)
-up_each vertex size slide passed held frames rows e ready rest fits up d key =
+-- what is not due is not newly due
+pub newly_false : (g b : Bool) → b ≡ false → cond g false b ≡ false
+newly_false true b h = refl
+newly_false false b h = h
+
+-- what has not passed was not due at the beginning
+pub not_begun : (begun passed : Option ℤ) (e : ℤ) → Passes begun passed → is_due passed e ≡ false → is_due begun e ≡ false
+not_begun begun passed e b h = from (is_due begun e) refl
+  where
+    true_false : true ≡ false → ⊥
+    true_false h = absurd (cc)
+
+    from : (g : Bool) → is_due begun e ≡ g → is_due begun e ≡ false
+    from true is = absurd (true_false (sym (b.stays e is) ∙ h))
+    from false is = is
+
+true_false : true ≡ false → ⊥
+true_false h = absurd (cc)
+
+up_each : (vertex : ℕ) (size slide : ℤ) (begun passed : Option ℤ) (held : Table) (frames : List FrameValue) (rows : List RowValue) (e : ℤ) (ready : List (List ℕ × AccValue)) (rest : Table)
+    → Passes begun passed → Fits vertex size slide begun passed held frames rows → TakesUp size slide passed held e ready rest
+    → (d : ℤ) (key : List ℕ) → rows_at d key (rows ++ map (row_of vertex e) ready) ≡ as_list (cond (is_multiple slide d && newly begun (is_due (Some e)) d) (total (frame_in size d key) frames) None)
+up_each vertex size slide begun passed held frames rows e ready rest begins fits up d key =
     rows_split d key rows (map (row_of vertex e) ready) ∙ by_lt_z d e below (λ le. by_lt_z e d above (λ ge. here (omega (arith, ints))))
   where
-    old : rows_at d key rows ≡ as_list (cond (is_multiple slide d && is_due passed d) (total (frame_in size d key) frames) None)
+    old : rows_at d key rows ≡ as_list (cond (is_multiple slide d && newly begun (is_due passed) d) (total (frame_in size d key) frames) None)
     old = fits.rows_are.each d key
 
-    none : is_due passed d ≡ false → rows_at d key rows ≡ []
-    none h = old ∙ ap as_list (false_pick (is_multiple slide d && is_due passed d) (total (frame_in size d key) frames) None (and_false (is_multiple slide d) (is_due passed d) h))
+    none : (z : ℤ) → is_due passed z ≡ false → rows_at z key rows ≡ []
+    none z h = fits.rows_are.each z key ∙ ap as_list (false_pick (is_multiple slide z && newly begun (is_due passed) z) (total (frame_in size z key) frames) None (and_false (is_multiple slide z) (newly begun (is_due passed) z) (newly_false (is_due begun z) (is_due passed z) h)))
 
-    below : d <ℤ e → rows_at d key rows ++ rows_at d key (map (row_of vertex e) ready) ≡ as_list (cond (is_multiple slide d && int_le d e) (total (frame_in size d key) frames) None)
+    below : d <ℤ e → rows_at d key rows ++ rows_at d key (map (row_of vertex e) ready) ≡ as_list (cond (is_multiple slide d && newly begun (is_due (Some e)) d) (total (frame_in size d key) frames) None)
     below lt =
         rw (ready_apart vertex e d key ready (eq_false d e lt).1)
-        (append-nil (rows_at d key rows) ∙ (old ∙ (below_case (is_multiple slide d) (is_due passed d) (total (frame_in size d key) frames) (λ m b. sym (fits.held_is d key m b) ∙ up.skips d key m b lt)
-        ∙ ap (λ b. as_list (cond (is_multiple slide d && b) (total (frame_in size d key) frames) None)) (sym (le_true d e (omega (arith, ints)))))))
+        (append-nil (rows_at d key rows) ∙ (old ∙ (below_case (is_due begun d) (is_multiple slide d) (is_due passed d) (total (frame_in size d key) frames) (λ m b. sym (fits.held_is d key m b) ∙ up.skips d key m b lt)
+        ∙ ap (λ b. as_list (cond (is_multiple slide d && cond (is_due begun d) false b) (total (frame_in size d key) frames) None)) (sym (le_true d e (omega (arith, ints)))))))
 
-    above : e <ℤ d → rows_at d key rows ++ rows_at d key (map (row_of vertex e) ready) ≡ as_list (cond (is_multiple slide d && int_le d e) (total (frame_in size d key) frames) None)
+    above : e <ℤ d → rows_at d key rows ++ rows_at d key (map (row_of vertex e) ready) ≡ as_list (cond (is_multiple slide d && newly begun (is_due (Some e)) d) (total (frame_in size d key) frames) None)
     above gt =
         rw (ready_apart vertex e d key ready (eq_false e d gt).0)
-        (append-nil (rows_at d key rows) ∙ (none (not_due_above passed e d up.later (omega (arith, ints)))
-        ∙ ap as_list (sym (false_pick (is_multiple slide d && int_le d e) (total (frame_in size d key) frames) None (and_false (is_multiple slide d) (int_le d e) (le_false d e gt))))))
+        (append-nil (rows_at d key rows) ∙ (none d (not_due_above passed e d up.later (omega (arith, ints)))
+        ∙ ap as_list (sym (false_pick (is_multiple slide d && newly begun (is_due (Some e)) d) (total (frame_in size d key) frames) None (and_false (is_multiple slide d) (newly begun (is_due (Some e)) d) (newly_false (is_due begun d) (int_le d e) (le_false d e gt)))))))
 
-    at_end : rows_at e key rows ++ rows_at e key (map (row_of vertex e) ready) ≡ as_list (cond (is_multiple slide e && int_le e e) (total (frame_in size e key) frames) None)
+    at_end : rows_at e key rows ++ rows_at e key (map (row_of vertex e) ready) ≡ as_list (cond (is_multiple slide e && newly begun (is_due (Some e)) e) (total (frame_in size e key) frames) None)
     at_end =
-        rw (ready_here vertex e key ready) (rw (fits.rows_are.each e key ∙ ap as_list (false_pick (is_multiple slide e && is_due passed e) (total (frame_in size e key) frames) None (and_false (is_multiple slide e) (is_due passed e) up.later)))
-        (up.ready_is key ∙ (ap as_list (fits.held_is e key up.multiple up.later) ∙ (rw up.multiple (rw (le_true e e (omega (arith, ints))) refl)))))
+        rw (ready_here vertex e key ready) (rw (none e up.later)
+        (up.ready_is key ∙ (ap as_list (fits.held_is e key up.multiple up.later) ∙ (rw up.multiple (rw (not_begun begun passed e begins up.later) (rw (le_true e e (omega (arith, ints))) refl))))))
 
-    here : e ≡ d → rows_at d key rows ++ rows_at d key (map (row_of vertex e) ready) ≡ as_list (cond (is_multiple slide d && int_le d e) (total (frame_in size d key) frames) None)
-    here is = subst (λ (z : ℤ). rows_at z key rows ++ rows_at z key (map (row_of vertex e) ready) ≡ as_list (cond (is_multiple slide z && int_le z e) (total (frame_in size z key) frames) None)) is at_end
+    here : e ≡ d → rows_at d key rows ++ rows_at d key (map (row_of vertex e) ready) ≡ as_list (cond (is_multiple slide d && newly begun (is_due (Some e)) d) (total (frame_in size d key) frames) None)
+    here is = subst (λ (z : ℤ). rows_at z key rows ++ rows_at z key (map (row_of vertex e) ready) ≡ as_list (cond (is_multiple slide z && newly begun (is_due (Some e)) z) (total (frame_in size z key) frames) None)) is at_end
 
 ready_vertices : (vertex : ℕ) (e : ℤ) (ready : List (List ℕ × AccValue)) → Each (λ (r : RowValue). r.vertex ≡ vertex) (map (row_of vertex e) ready)
 ready_vertices vertex e [] = tt
@@ -144,17 +165,17 @@ before_ready vertex passed e later (r ∷ rows) ready h = (each ready, before_re
     each [] = tt
     each (p ∷ ps) = (less_then r.end e (slice_cmp nat_cmp r.key p.0) (due_more passed e r.end later h.0), each ps)
 
-pub Fits-up : (vertex : ℕ) (size slide : ℤ) (passed : Option ℤ) (held : Table) (frames : List FrameValue) (rows : List RowValue) (e : ℤ) (ready : List (List ℕ × AccValue)) (rest : Table)
-    → Fits vertex size slide passed held frames rows → TakesUp size slide passed held e ready rest
-    → Fits vertex size slide (Some e) rest frames (rows ++ map (row_of vertex e) ready)
-Fits-up vertex size slide passed held frames rows e ready rest fits up =
+pub Fits-up : (vertex : ℕ) (size slide : ℤ) (begun passed : Option ℤ) (held : Table) (frames : List FrameValue) (rows : List RowValue) (e : ℤ) (ready : List (List ℕ × AccValue)) (rest : Table)
+    → Passes begun passed → Fits vertex size slide begun passed held frames rows → TakesUp size slide passed held e ready rest
+    → Fits vertex size slide begun (Some e) rest frames (rows ++ map (row_of vertex e) ready)
+Fits-up vertex size slide begun passed held frames rows e ready rest begins fits up =
     let new : List RowValue = map (row_of vertex e) ready in
     record {
       held_is = λ d key m b.
           let gt : e <ℤ d = by_lt_z e d (λ lt. lt) (λ le. absurd (not_so (int_le d e) (Decides-int_le d e) b le)) in
           up.leaves d key m gt ∙ fits.held_is d key m (not_due_above passed e d up.later (omega (arith, ints)));
       rows_are = record {
-        each = up_each vertex size slide passed held frames rows e ready rest fits up;
+        each = up_each vertex size slide begun passed held frames rows e ready rest begins fits up;
         vertices = Each-append (λ (r : RowValue). r.vertex ≡ vertex) rows new fits.rows_are.vertices (ready_vertices vertex e ready);
         rising = EachPair-append Rises rows new fits.rows_are.rising (ready_rises vertex e ready up.rising) (before_ready vertex passed e up.later rows ready fits.within);
       };
@@ -164,64 +185,62 @@ Fits-up vertex size slide passed held frames rows e ready rest fits up =
     }
 
 -- ---- a time passes
-pass_case : (m b c : Bool) (t : Option AccValue) → (b ≡ true → c ≡ true) → (m ≡ true → b ≡ false → c ≡ true → t ≡ None) → as_list (cond (m && b) t None) ≡ as_list (cond (m && c) t None)
-pass_case m true c t h k = rw (h refl) refl
-pass_case m false false t h k = refl
-pass_case false false true t h k = refl
-pass_case true false true t h k = rw (k refl refl refl) refl
+pass_case : (g m b c : Bool) (t : Option AccValue) → (b ≡ true → c ≡ true) → (m ≡ true → b ≡ false → c ≡ true → t ≡ None) → as_list (cond (m && cond g false b) t None) ≡ as_list (cond (m && cond g false c) t None)
+pass_case true m b c t h k = refl
+pass_case false m true c t h k = rw (h refl) refl
+pass_case false m false false t h k = refl
+pass_case false false false true t h k = refl
+pass_case false true false true t h k = rw (k refl refl refl) refl
 
-pub Fits-pass : (vertex : ℕ) (size slide : ℤ) (passed : Option ℤ) (held : Table) (frames : List FrameValue) (rows : List RowValue) (t : ℤ)
-    → Fits vertex size slide passed held frames rows → Passes passed t → Clear size slide passed held t
-    → Fits vertex size slide (Some t) held frames rows
-Fits-pass vertex size slide passed held frames rows t fits passes clear =
+-- no window is left that is due next and has a frame
+pub Fits-pass : (vertex : ℕ) (size slide : ℤ) (begun passed next : Option ℤ) (held : Table) (frames : List FrameValue) (rows : List RowValue)
+    → Fits vertex size slide begun passed held frames rows → Passes passed next
+    → ((d : ℤ) (key : List ℕ) → is_multiple slide d ≡ true → is_due passed d ≡ false → is_due next d ≡ true → total (held_in size d key) held ≡ None)
+    → Fits vertex size slide begun next held frames rows
+Fits-pass vertex size slide begun passed next held frames rows fits passes clear =
     record {
-      held_is = λ d key m b. fits.held_is d key m (still d b);
+      held_is = λ d key m b. fits.held_is d key m (not_begun passed next d passes b);
       rows_are = record {
         each = λ d key. fits.rows_are.each d key
-            ∙ pass_case (is_multiple slide d) (is_due passed d) (int_le d t) (total (frame_in size d key) frames)
-            (λ b. le_true d t (passes.stays d b))
-            (λ m b c. sym (fits.held_is d key m b) ∙ clear.none d key m b ((Decides-int_le d t).0 c));
+            ∙ pass_case (is_due begun d) (is_multiple slide d) (is_due passed d) (is_due next d) (total (frame_in size d key) frames)
+            (λ b. passes.stays d b)
+            (λ m b c. sym (fits.held_is d key m b) ∙ clear d key m b c);
         vertices = fits.rows_are.vertices;
         rising = fits.rows_are.rising;
       };
-      within = Each-more (λ (r : RowValue). is_due passed r.end ≡ true) (λ (r : RowValue). int_le r.end t ≡ true) (λ r h. le_true r.end t (passes.stays r.end h)) rows fits.within;
+      within = Each-more (λ (r : RowValue). is_due passed r.end ≡ true) (λ (r : RowValue). is_due next r.end ≡ true) (λ r h. passes.stays r.end h) rows fits.within;
     }
-  where
-    still_if : (d : ℤ) (b : Bool) → is_due passed d ≡ b → int_le d t ≡ false → is_due passed d ≡ false
-    still_if d true is h = absurd (not_so (int_le d t) (Decides-int_le d t) h (passes.stays d is))
-    still_if d false is h = is
-
-    still : (d : ℤ) → int_le d t ≡ false → is_due passed d ≡ false
-    still d h = still_if d (is_due passed d) refl h
 
 -- ---- a frame is taken
 -- a frame that ends above what passed touches no window that passed
-not_covered : (passed : Option ℤ) (size d end : ℤ) → is_due passed end ≡ false → is_due passed d ≡ true → covers size d end ≡ false
+pub not_covered : (passed : Option ℤ) (size d end : ℤ) → is_due passed end ≡ false → is_due passed d ≡ true → covers size d end ≡ false
 not_covered passed size d end h k =
     false_from (covers size d end) (Decides-covers size d end) (λ c. let q = c.1 in let lt : d <ℤ end = due_more passed end d h k in absurd (omega (arith, ints)))
 
-share_none : (b c : Bool) (a : AccValue) → c ≡ false → only (b && c) a ≡ None
+pub share_none : (b c : Bool) (a : AccValue) → c ≡ false → only (b && c) a ≡ None
 share_none true true a h = absurd (cc)
 share_none true false a h = refl
 share_none false c a h = refl
 
-frame_case : (m b : Bool) (s t : Option AccValue) → (b ≡ true → s ≡ None) → as_list (cond (m && b) t None) ≡ as_list (cond (m && b) (both t (both s None)) None)
-frame_case true true s t h = rw (h refl) (ap as_list (sym (both_none t)))
+frame_case : (m g : Bool) (s t : Option AccValue) → (m ≡ true → g ≡ true → s ≡ None) → as_list (cond (m && g) t None) ≡ as_list (cond (m && g) (both t (both s None)) None)
+frame_case true true s t h = rw (h refl refl) (ap as_list (sym (both_none t)))
 frame_case true false s t h = refl
-frame_case false b s t h = refl
+frame_case false g s t h = refl
 
-pub Fits-frame : (vertex : ℕ) (size slide : ℤ) (passed : Option ℤ) (held : Table) (frames : List FrameValue) (rows : List RowValue) (f : FrameValue) (held' : Table)
-    → Fits vertex size slide passed held frames rows → is_due passed f.end ≡ false
-    → ((d : ℤ) (key : List ℕ) → total (held_in size d key) held' ≡ both (frame_in size d key f) (total (held_in size d key) held))
-    → Fits vertex size slide passed held' (frames ++ f ∷ []) rows
-Fits-frame vertex size slide passed held frames rows f held' fits later grows =
+-- it brings nothing to windows whose rows were given, and what it brings to the others is held
+pub Fits-frame : (vertex : ℕ) (size slide : ℤ) (begun passed : Option ℤ) (held : Table) (frames : List FrameValue) (rows : List RowValue) (f : FrameValue) (held' : Table)
+    → Fits vertex size slide begun passed held frames rows
+    → ((d : ℤ) → is_multiple slide d ≡ true → newly begun (is_due passed) d ≡ true → covers size d f.end ≡ false)
+    → ((d : ℤ) (key : List ℕ) → is_multiple slide d ≡ true → is_due passed d ≡ false → total (held_in size d key) held' ≡ both (frame_in size d key f) (total (held_in size d key) held))
+    → Fits vertex size slide begun passed held' (frames ++ f ∷ []) rows
+Fits-frame vertex size slide begun passed held frames rows f held' fits later grows =
     record {
-      held_is = λ d key m b. grows d key ∙ (ap (both (frame_in size d key f)) (fits.held_is d key m b) ∙ sym (more d key));
+      held_is = λ d key m b. grows d key m b ∙ (ap (both (frame_in size d key f)) (fits.held_is d key m b) ∙ sym (more d key));
       rows_are = record {
         each = λ d key. fits.rows_are.each d key
-            ∙ (frame_case (is_multiple slide d) (is_due passed d) (frame_in size d key f) (total (frame_in size d key) frames)
-            (λ b. share_none (bytes_eq f.key key) (covers size d f.end) f.acc (not_covered passed size d f.end later b))
-            ∙ ap (λ t. as_list (cond (is_multiple slide d && is_due passed d) t None)) (sym (total-append (frame_in size d key) frames (f ∷ []))));
+            ∙ (frame_case (is_multiple slide d) (newly begun (is_due passed) d) (frame_in size d key f) (total (frame_in size d key) frames)
+            (λ m b. share_none (bytes_eq f.key key) (covers size d f.end) f.acc (later d m b))
+            ∙ ap (λ t. as_list (cond (is_multiple slide d && newly begun (is_due passed) d) t None)) (sym (total-append (frame_in size d key) frames (f ∷ []))));
         vertices = fits.rows_are.vertices;
         rising = fits.rows_are.rising;
       };
@@ -231,21 +250,24 @@ Fits-frame vertex size slide passed held frames rows f held' fits later grows =
     more : (d : ℤ) (key : List ℕ) → total (frame_in size d key) (frames ++ f ∷ []) ≡ both (frame_in size d key f) (total (frame_in size d key) frames)
     more d key = total-append (frame_in size d key) frames (f ∷ []) ∙ (ap (both (total (frame_in size d key) frames)) (both_none (frame_in size d key f)) ∙ both_comm (total (frame_in size d key) frames) (frame_in size d key f))
 
-pub Fits-none : (vertex : ℕ) (size slide : ℤ) → Fits vertex size slide None [] [] []
-Fits-none vertex size slide = record {
-  held_is = λ e key m b. refl;
-  rows_are = record { each = λ e key. as_none (is_multiple slide e); vertices = tt; rising = tt };
+-- what is newly due after a beginning alone
+never_new : (g m : Bool) (t : Option AccValue) → as_list {X = AccValue} None ≡ as_list (cond (m && cond g false g) t None)
+never_new true true t = refl
+never_new true false t = refl
+never_new false true t = refl
+never_new false false t = refl
+
+pub Fits-start : (vertex : ℕ) (size slide : ℤ) (begun : Option ℤ) (held : Table) (frames : List FrameValue) → ((e : ℤ) (key : List ℕ) → total (held_in size e key) held ≡ total (frame_in size e key) frames) → Fits vertex size slide begun begun held frames []
+Fits-start vertex size slide begun held frames joins = record {
+  held_is = λ e key m b. joins e key;
+  rows_are = record { each = λ e key. never_new (is_due begun e) (is_multiple slide e) (total (frame_in size e key) frames); vertices = tt; rising = tt };
   within = tt;
 }
-  where
-    as_none : (m : Bool) → as_list {X = AccValue} None ≡ as_list (cond (m && false) None None)
-    as_none true = refl
-    as_none false = refl
 
 -- ---- frames are forgotten
-pub Fits-forget : (vertex : ℕ) (size slide : ℤ) (passed : Option ℤ) (held rest : Table) (frames : List FrameValue) (rows : List RowValue)
-    → Fits vertex size slide passed held frames rows → Forgets size slide passed held rest → Fits vertex size slide passed rest frames rows
-Fits-forget vertex size slide passed held rest frames rows fits f = record {
+pub Fits-forget : (vertex : ℕ) (size slide : ℤ) (begun passed : Option ℤ) (held rest : Table) (frames : List FrameValue) (rows : List RowValue)
+    → Fits vertex size slide begun passed held frames rows → Forgets size slide passed held rest → Fits vertex size slide begun passed rest frames rows
+Fits-forget vertex size slide begun passed held rest frames rows fits f = record {
   held_is = λ d key m b. f.leaves d key m b ∙ fits.held_is d key m b;
   rows_are = fits.rows_are;
   within = fits.within;

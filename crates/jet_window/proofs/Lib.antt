@@ -14,6 +14,7 @@ pub mod Members
 pub mod Moving
 pub mod Promising
 pub mod Reading
+pub mod Sliding
 pub mod Staging
 pub mod Standing
 pub mod Stepping

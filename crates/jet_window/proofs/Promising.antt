@@ -1,11 +1,12 @@
 -- What a combine vertex promises, and that each step keeps it.
-use Rattle.std.proofs.Common.{◌≡◌, ℕ, Bool, true, false, ℤ, ◌<ℤ◌, List, [], ◌∷◌, ◌++◌, map, Option, Some, refl, sym, ◌∙◌, ap, subst, arith, append-nil}
+use Rattle.std.proofs.Common.{◌≡◌, ℕ, Bool, true, false, ◌||◌, ℤ, ◌<ℤ◌, ◌≤ℤ◌, List, [], ◌∷◌, ◌++◌, map, Option, Some, None, refl, sym, ◌∙◌, ap, subst, arith, append-nil, append_assoc}
+use Rattle.std.specs.Prelude.{int_le}
 use Rattle.std.specs.List.{flat_map}
 use Rattle.std.proofs.lemmas.Int.{ints}
 use Rattle.std.proofs.lemmas.List.Concat.{flat_map-append}
 use Rattle.std.proofs.lemmas.List.Sums.{sum_by-append}
 use Rattle.jet_items.specs.Bag.{SameBag}
-use Rattle.jet_items.specs.Frames.{frame_in}
+use Rattle.jet_items.specs.Frames.{covers, frame_in}
 use Rattle.jet_items.specs.Kinds.{frames_of, rows_of, marks_of, as_event, as_side, as_frame, as_row, as_late, as_mark}
 use Rattle.jet_items.specs.Order.{Each, EachPair, SoundAfter, LateIsBehind, ClosedAfter, IsAbove}
 use Rattle.jet_items.specs.Totals.{both, total}
@@ -17,14 +18,16 @@ use Rattle.jet_boxes.specs.Entry.{IsData, NotDone}
 use Rattle.jet_window.specs.Idles.{as_idle}
 use Rattle.jet_window.specs.CombineLaws.{pending_none}
 use Rattle.jet_window.specs.CombineStands.{IsFrame, Promises, pending}
-use Rattle.jet_window.specs.Combining.{Fits, TakesUp, Clear, Passes, row_of}
+use Rattle.jet_window.specs.Combining.{Fits, TakesUp, Passes, row_of}
 use Rattle.jet_window.specs.FrameTables.{Table, IsKept, held_in}
+use Rattle.jet_window.specs.Later.{newly, later_of, later_due}
 use Rattle.jet_window.specs.Passing.{Shadows-append, Shadows-more, of_none, of_both, bag_both, alone_push, marks_none, data_open, after_marks, marks_below, closed_before, closed_push}
+use Rattle.jet_window.specs.Tables.{is_multiple}
 use Rattle.jet_window.specs.Taken.{is_due}
 use Rattle.jet_window.proofs.Fitting.{Fits-up, Fits-pass, Fits-frame, due_more, le_true}
 
 -- the premise of what was taken before
-pub weaker : {vertex : ℕ} {size slide : ℤ} {passed : Option ℤ} {held : Table} {promised : List Item} {a b : Type 0} {items : List Item} → (b → a) → Promises vertex size slide passed held promised a items → Promises vertex size slide passed held promised b items
+pub weaker : {vertex : ℕ} {size slide : ℤ} {begun : Option ℤ} {start : List FrameValue} {passed : Option ℤ} {held : Table} {promised : List Item} {a b : Type 0} {items : List Item} → (b → a) → Promises vertex size slide begun start passed held promised a items → Promises vertex size slide begun start passed held promised b items
 weaker f p = record {
   sound = p.sound;
   behind_lates = p.behind_lates;
@@ -40,6 +43,7 @@ weaker f p = record {
   own = p.own;
   rows = p.rows;
   alone = p.alone;
+  begins = p.begins;
   fits = λ i. p.fits (f i);
   kept = p.kept;
 }
@@ -104,10 +108,10 @@ up_none : {X : Type 0} (f : Item → List X) → ((r : RowValue) → f (item.Row
 up_none f h promised vertex e ready =
     flat_map-append f promised (pending vertex e ready) ∙ (ap (λ (us : List _). flat_map f promised ++ us) (pending_none f h vertex e ready) ∙ append-nil (flat_map f promised))
 
-pub Promises-up : (vertex : ℕ) (size slide : ℤ) (passed : Option ℤ) (held : Table) (promised : List Item) (input : Type 0) (items : List Item) (e : ℤ) (ready : List (List ℕ × AccValue)) (rest : Table)
-    → Promises vertex size slide passed held promised input items → TakesUp size slide passed held e ready rest
-    → Promises vertex size slide (Some e) rest (promised ++ pending vertex e ready) input items
-Promises-up vertex size slide passed held promised input items e ready rest p up =
+pub Promises-up : (vertex : ℕ) (size slide : ℤ) (begun : Option ℤ) (start : List FrameValue) (passed : Option ℤ) (held : Table) (promised : List Item) (input : Type 0) (items : List Item) (e : ℤ) (ready : List (List ℕ × AccValue)) (rest : Table)
+    → Promises vertex size slide begun start passed held promised input items → TakesUp size slide passed held e ready rest
+    → Promises vertex size slide begun start (Some e) rest (promised ++ pending vertex e ready) input items
+Promises-up vertex size slide begun start passed held promised input items e ready rest p up =
     let new : List Item = pending vertex e ready in
     let new_rows : List RowValue = map (row_of vertex e) ready in
     let rows_now : rows_of (promised ++ new) ≡ rows_of promised ++ new_rows = flat_map-append as_row promised new ∙ ap (λ (rs : List RowValue). rows_of promised ++ rs) (rows_rows vertex e ready) in
@@ -127,7 +131,8 @@ Promises-up vertex size slide passed held promised input items e ready rest p up
       own = p.own ++ new_rows;
       rows = subst (λ (rs : List RowValue). SameBag rs (rows_of items ++ (p.own ++ new_rows))) (sym rows_now) (bag_more (rows_of promised) (rows_of items) p.own new_rows p.rows);
       alone = λ none. rows_now ∙ ap (λ (rs : List RowValue). rs ++ new_rows) (p.alone none);
-      fits = λ i. Fits-up vertex size slide passed held (frames_of items) p.own e ready rest (p.fits i) up;
+      begins = record { stays = λ d b. let lt : d <ℤ e = due_more passed e d up.later (p.begins.stays d b) in le_true d e (omega (arith, ints)) };
+      fits = λ i. Fits-up vertex size slide begun passed held (start ++ frames_of items) p.own e ready rest p.begins (p.fits i) up;
       kept = up.kept;
     }
 
@@ -142,9 +147,9 @@ no_frame item.Idle h = refl
 no_frame (item.Mark e) h = refl
 no_frame item.Done h = refl
 
-pub Promises-pass : (vertex : ℕ) (size slide : ℤ) (passed : Option ℤ) (held : Table) (promised : List Item) (input : Type 0) (items : List Item) (x : Item) → (IsFrame x → ⊥) → IsData x
-    → Promises vertex size slide passed held promised input items → Promises vertex size slide passed held (promised ++ x ∷ []) input (items ++ x ∷ [])
-Promises-pass vertex size slide passed held promised input items x none data_is p =
+pub Promises-pass : (vertex : ℕ) (size slide : ℤ) (begun : Option ℤ) (start : List FrameValue) (passed : Option ℤ) (held : Table) (promised : List Item) (input : Type 0) (items : List Item) (x : Item) → (IsFrame x → ⊥) → IsData x
+    → Promises vertex size slide begun start passed held promised input items → Promises vertex size slide begun start passed held (promised ++ x ∷ []) input (items ++ x ∷ [])
+Promises-pass vertex size slide begun start passed held promised input items x none data_is p =
     let same_marks : marks_of (items ++ x ∷ []) ≡ marks_of items = of_none as_mark items x (marks_none x data_is) in
     record {
       sound = λ behind. Shadows-append (SoundAfter behind) promised items (x ∷ []) (x ∷ []) (p.sound behind) (Shadows-refl (SoundAfter behind) (x ∷ []));
@@ -161,16 +166,17 @@ Promises-pass vertex size slide passed held promised input items x none data_is 
       own = p.own;
       rows = bag_both as_row promised items p.own x p.rows;
       alone = alone_push as_row promised items p.own x p.alone;
-      fits = λ i. subst (λ (fs : List FrameValue). Fits vertex size slide passed held fs p.own) (sym (of_none as_frame items x (no_frame x none))) (p.fits i);
+      begins = p.begins;
+      fits = λ i. subst (λ (fs : List FrameValue). Fits vertex size slide begun passed held (start ++ fs) p.own) (sym (of_none as_frame items x (no_frame x none))) (p.fits i);
       kept = p.kept;
     }
 
 -- ---- a frame is taken
-pub Promises-frame : (vertex : ℕ) (size slide : ℤ) (passed : Option ℤ) (held : Table) (promised : List Item) (input : Type 0) (items : List Item) (f : FrameValue) (held' : Table)
-    → (input → is_due passed f.end ≡ false)
-    → ((d : ℤ) (key : List ℕ) → total (held_in size d key) held' ≡ both (frame_in size d key f) (total (held_in size d key) held)) → IsKept held'
-    → Promises vertex size slide passed held promised input items → Promises vertex size slide passed held' promised input (items ++ item.Frame f ∷ [])
-Promises-frame vertex size slide passed held promised input items f held' later grows order p =
+pub Promises-frame : (vertex : ℕ) (size slide : ℤ) (begun : Option ℤ) (start : List FrameValue) (passed : Option ℤ) (held : Table) (promised : List Item) (input : Type 0) (items : List Item) (f : FrameValue) (held' : Table)
+    → (input → (d : ℤ) → is_multiple slide d ≡ true → newly begun (is_due passed) d ≡ true → covers size d f.end ≡ false)
+    → ((d : ℤ) (key : List ℕ) → is_multiple slide d ≡ true → is_due passed d ≡ false → total (held_in size d key) held' ≡ both (frame_in size d key f) (total (held_in size d key) held)) → IsKept held'
+    → Promises vertex size slide begun start passed held promised input items → Promises vertex size slide begun start passed held' promised input (items ++ item.Frame f ∷ [])
+Promises-frame vertex size slide begun start passed held promised input items f held' later grows order p =
     let v : Item = item.Frame f in
     let same_rows : rows_of (items ++ v ∷ []) ≡ rows_of items = of_none as_row items v refl in
     record {
@@ -188,17 +194,25 @@ Promises-frame vertex size slide passed held promised input items f held' later 
       own = p.own;
       rows = subst (λ (rs : List RowValue). SameBag (rows_of promised) (rs ++ p.own)) (sym same_rows) p.rows;
       alone = λ none. p.alone (sym same_rows ∙ none);
-      fits = λ i. subst (λ (fs : List FrameValue). Fits vertex size slide passed held' fs p.own) (sym (flat_map-append as_frame items (v ∷ [])))
-          (Fits-frame vertex size slide passed held (frames_of items) p.own f held' (p.fits i) (later i) grows);
+      begins = p.begins;
+      fits = λ i. subst (λ (fs : List FrameValue). Fits vertex size slide begun passed held' fs p.own) (append_assoc start (frames_of items) (f ∷ []) ∙ ap (λ (fs : List FrameValue). start ++ fs) (sym (flat_map-append as_frame items (v ∷ []))))
+          (Fits-frame vertex size slide begun passed held (start ++ frames_of items) p.own f held' (p.fits i) (later i) grows);
       kept = order;
     }
 
 -- ---- a mark is told
-pub Promises-mark : (vertex : ℕ) (size slide : ℤ) (passed : Option ℤ) (held : Table) (promised : List Item) (input : Type 0) (items : List Item) (t : ℤ) (inputs : Type 0)
-    → (inputs → input) → (inputs → Passes passed t) → Clear size slide passed held t
-    → Promises vertex size slide passed held promised input items → Promises vertex size slide (Some t) held (promised ++ item.Mark t ∷ []) inputs (items ++ item.Mark t ∷ [])
-Promises-mark vertex size slide passed held promised input items t inputs back passes clear p =
+or_true : (b c : Bool) → c ≡ true → (b || c) ≡ true
+or_true true c h = refl
+or_true false c h = h
+
+pub Promises-mark : (vertex : ℕ) (size slide : ℤ) (begun : Option ℤ) (start : List FrameValue) (passed : Option ℤ) (held : Table) (promised : List Item) (input : Type 0) (items : List Item) (t : ℤ) (inputs : Type 0)
+    → (inputs → input) → (inputs → Passes passed (later_of begun (Some t)))
+    → ((d : ℤ) (key : List ℕ) → is_multiple slide d ≡ true → is_due passed d ≡ false → is_due (later_of begun (Some t)) d ≡ true → total (held_in size d key) held ≡ None)
+    → Promises vertex size slide begun start passed held promised input items → Promises vertex size slide begun start (later_of begun (Some t)) held (promised ++ item.Mark t ∷ []) inputs (items ++ item.Mark t ∷ [])
+Promises-mark vertex size slide begun start passed held promised input items t inputs back passes clear p =
     let m : Item = item.Mark t in
+    let next : Option ℤ = later_of begun (Some t) in
+    let up_to : (w : ℤ) → w ≤ℤ t → is_due next w ≡ true = λ w le. later_due begun (Some t) w ∙ or_true (is_due begun w) (int_le w t) (le_true w t le) in
     let x : List Item = m ∷ [] in
     let same_rows : rows_of (items ++ x) ≡ rows_of items = of_none as_row items m refl in
     record {
@@ -206,10 +220,10 @@ Promises-mark vertex size slide passed held promised input items t inputs back p
       behind_lates = λ behind h. Each-append (LateIsBehind behind) promised x (p.behind_lates behind (Each-front (LateIsBehind behind) items x h)) (Each-back (LateIsBehind behind) items x h);
       open_ended = Each-append NotDone promised x p.open_ended (tt, tt);
       marks = of_both as_mark promised items m p.marks;
-      due = λ i. subst (Each (λ w. is_due (Some t) w ≡ true)) (sym (flat_map-append as_mark items x))
-          (Each-append (λ w. is_due (Some t) w ≡ true) (marks_of items) (t ∷ [])
-          (Each-more (λ w. Each (IsAbove w) x) (λ w. is_due (Some t) w ≡ true) (λ w h. let lt : w <ℤ t = h.0 in le_true w t (omega (arith, ints))) (marks_of items) (marks_below items m i))
-          (le_true t t (omega (arith, ints)), tt));
+      due = λ i. subst (Each (λ w. is_due next w ≡ true)) (sym (flat_map-append as_mark items x))
+          (Each-append (λ w. is_due next w ≡ true) (marks_of items) (t ∷ [])
+          (Each-more (λ w. Each (IsAbove w) x) (λ w. is_due next w ≡ true) (λ w h. let lt : w <ℤ t = h.0 in up_to w (omega (arith, ints))) (marks_of items) (marks_below items m i))
+          (up_to t (omega (arith, ints)), tt));
       closed = λ i. closed_push promised items m p.open_ended p.marks (p.closed (closed_before items m i)) i;
       events = of_both as_event promised items m p.events;
       sides = of_both as_side promised items m p.sides;
@@ -219,7 +233,8 @@ Promises-mark vertex size slide passed held promised input items t inputs back p
       own = p.own;
       rows = bag_both as_row promised items p.own m p.rows;
       alone = alone_push as_row promised items p.own m p.alone;
-      fits = λ i. subst (λ (fs : List FrameValue). Fits vertex size slide (Some t) held fs p.own) (sym (of_none as_frame items m refl))
-          (Fits-pass vertex size slide passed held (frames_of items) p.own t (p.fits (back i)) (passes i) clear);
+      begins = record { stays = λ d b. later_due begun (Some t) d ∙ rw b refl };
+      fits = λ i. subst (λ (fs : List FrameValue). Fits vertex size slide begun next held (start ++ fs) p.own) (sym (of_none as_frame items m refl))
+          (Fits-pass vertex size slide begun passed next held (start ++ frames_of items) p.own (p.fits (back i)) (passes i) clear);
       kept = p.kept;
     }

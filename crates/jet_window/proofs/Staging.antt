@@ -1,12 +1,13 @@
 -- From frame instances through combine instances to the rows over the events.
-use Rattle.std.proofs.Common.{◌≡◌, ℕ, zero, suc, ◌<◌, Bool, true, false, cond, ◌&&◌, ◌==◌, ℤ, pos, List, [], ◌++◌, map, filter, Option, Some, None, refl, sym, ◌∙◌, ap, subst, arith, append-nil}
+use Rattle.std.proofs.Common.{◌≡◌, ℕ, zero, suc, ◌<◌, Bool, true, false, cond, ◌&&◌, ◌==◌, ℤ, List, [], ◌++◌, map, filter, Option, Some, None, refl, sym, ◌∙◌, ap, subst, arith, append-nil}
 use Rattle.std.specs.Prelude.{bytes_eq}
 use Rattle.std.proofs.lemmas.Slice.Eq.{bytes_eq-Decides}
 use Rattle.std.proofs.lemmas.Bool.Decides.{Decides-eqb}
 use Rattle.std.proofs.lemmas.List.Concat.{flat_map-append}
+use Rattle.std.proofs.lemmas.List.Elements.{filter-append}
 use Rattle.jet_items.specs.Bag.{SameBag, all_of}
 use Rattle.jet_items.specs.Values.{AccValue, EventValue, FrameValue, RowValue}
-use Rattle.jet_items.specs.Rows.{first_value, members}
+use Rattle.jet_items.specs.Rows.{Window, first_value, members}
 use Rattle.jet_items.specs.Totals.{total, both}
 use Rattle.jet_items.specs.Frames.{only, covers, frame_in, event_in, FramesSum}
 use Rattle.jet_items.proofs.Totaling.{total-SameBag, total-append}
@@ -17,12 +18,14 @@ use Rattle.jet_window.specs.WindowRows.{as_list, row_at, rows_at, RowsAre}
 use Rattle.jet_window.proofs.Ending.{multiple_fact, whole_multiple}
 use Rattle.jet_items.specs.Kinds.{frames_of}
 use Rattle.jet_items.specs.Order.{Each}
-use Rattle.jet_items.proofs.Bags.{SameBag-refl, SameBag-sym}
+use Rattle.jet_items.proofs.Bags.{SameBag-refl, SameBag-sym, SameBag-append}
 use Rattle.jet_items.proofs.Orders.{Each-append}
 use Rattle.jet_policy.specs.Policy.{IsPolicy}
 use Rattle.jet_boxes.specs.Entry.{items_of}
 use Rattle.jet_window.specs.LateEvents.{kept_events}
-use Rattle.jet_window.specs.StageLaws.{FramesSumKept, InstancesSumKept, InstancesGiveRows, OneRowEach, IsRowFor}
+use Rattle.jet_window.specs.Later.{newly}
+use Rattle.jet_window.specs.Taken.{is_due}
+use Rattle.jet_window.specs.StageLaws.{FramesSumKept, InstancesSumKept, InstancesGiveRows, RowsOver, OneRowEach, IsRowFor}
 
 -- the frames of n instances sum the events that they kept
 pub sums_of_instances : (slide : ℤ) (n : ℕ) (frames : ℕ → List FrameValue) (events : ℕ → List EventValue) → ((i : ℕ) → i < n → FramesSum slide (frames i) (events i)) → FramesSum slide (all_of n frames) (all_of n events)
@@ -82,8 +85,15 @@ vertices_of : (vertex : ℕ) (m : ℕ) (rows : ℕ → List RowValue) → ((j : 
 vertices_of vertex zero rows h = tt
 vertices_of vertex (suc m) rows h = Each-append (λ (r : RowValue). r.vertex ≡ vertex) (all_of m rows) (rows m) (vertices_of vertex m rows (λ j lt. h j (omega arith))) (h m (omega arith))
 
-pub instances_give_rows : InstancesGiveRows
-instances_give_rows w due m owner held frames mine events rows dues grid sums owned dealt law same =
+dealt_give_rows : (w : Window) (due : List ℕ → ℤ → Bool) (m : ℕ) (owner : List ℕ → ℕ) (held frames : List FrameValue) (mine : ℕ → List FrameValue) (events : List EventValue) (rows : ℕ → List RowValue) (dues : ℕ → ℤ → Bool)
+    → IsPolicy w.size w.slide
+    → FramesSum w.slide frames events
+    → ((key : List ℕ) → owner key < m)
+    → ((j : ℕ) → j < m → SameBag (mine j) (filter (λ f. owner f.key == j) (held ++ frames)))
+    → ((j : ℕ) → j < m → RowsAre w.vertex w.size w.slide (dues j) (mine j) (rows j))
+    → ((key : List ℕ) (e : ℤ) → dues (owner key) e ≡ due key e)
+    → RowsOver w due held events (all_of m rows)
+dealt_give_rows w due m owner held frames mine events rows dues grid sums owned dealt law same =
     let share : ℤ → List ℕ → FrameValue → Option AccValue = λ e key. frame_in w.size e key in
     let own : (e : ℤ) (key : List ℕ) → total (share e key) (mine (owner key)) ≡ both (total (share e key) held) (total (share e key) frames) = λ e key.
     total-SameBag (share e key) (dealt (owner key) (owned key))
@@ -104,6 +114,12 @@ instances_give_rows w due m owner held frames mine events rows dues grid sums ow
           (window_of_frames w.slide w.size e key frames events grid.slide_low grid.size_low (whole_multiple w.size w.slide grid) (multiple_fact w.slide e grid.slide_low multiple) sums)));
       vertices = vertices_of w.vertex m rows (λ j lt. (law j lt).vertices);
     }
+
+pub instances_give_rows : InstancesGiveRows
+instances_give_rows w begun due m owner held frames starts mine events rows dues grid sums owned began dealt law same =
+    dealt_give_rows w (λ key. newly begun (due key)) m owner held frames (λ j. starts j ++ mine j) events rows (λ j. newly begun (dues j)) grid sums owned
+    (λ j lt. subst (SameBag (starts j ++ mine j)) (sym (filter-append (λ (f : FrameValue). owner f.key == j) held frames)) (SameBag-append (began j lt) (dealt j lt))) law
+    (λ key e. ap (λ (b : Bool). cond (is_due begun e) false b) (same key e))
 
 for_total : (values : List ℤ) (t : Option AccValue) → IsTotalOf values t → IsRowFor (as_list t) values
 for_total values None h = h

@@ -1,5 +1,5 @@
 -- What a combine vertex gave and holds, against what it took.
-use Rattle.std.specs.Prelude.{◌≡◌, ℕ, Bool, true, false, cond, ◌||◌, ℤ, List, [], ◌∷◌, ◌++◌, map, Option}
+use Rattle.std.specs.Prelude.{◌≡◌, ℕ, Bool, true, false, ◌||◌, ℤ, List, [], ◌∷◌, ◌++◌, map, Option, Some}
 use Rattle.jet_items.specs.Bag.{SameBag}
 use Rattle.jet_items.specs.Kinds.{events_of, sides_of, frames_of, rows_of, lates_of, marks_of}
 use Rattle.jet_items.specs.Order.{Each, EachPair, SoundAfter, LateIsBehind, ClosedAfter}
@@ -14,18 +14,16 @@ use Rattle.jet_policy.specs.Policy.{IsPolicy}
 use Rattle.jet_boxes.specs.Entry.{CallEntry, Given, MarkTold, QueueClosed, Finish, items_of, NotFinish, NotDone}
 use Rattle.jet_window.specs.Idles.{idles_of}
 use Rattle.jet_window.specs.Combining.{Fits, Passes, row_of}
-use Rattle.jet_window.specs.FrameTables.{Table, IsKept}
+use Rattle.jet_window.specs.FrameTables.{Table, IsKept, FramesRise}
+use Rattle.jet_window.specs.Later.{newly, later_of}
 use Rattle.jet_window.specs.Tables.{Place, is_multiple}
 use Rattle.jet_window.specs.Taken.{is_due, last_mark, is_finished, due_after, InOpenWindow, StageInput}
 use Rattle.jet_window.specs.WindowRows.{RowsAre}
 
--- an end is due, and above the mark that a vertex began with
-abbrev pub newly : Option ℤ → (ℤ → Bool) → ℤ → Bool
-newly begun due e = cond (is_due begun e) false (due e)
-
--- the bag law of a combine vertex that holds these frames, and began with this mark and these frames or with none: `due` says of
--- a window end that its rows are given, where what was taken is as `input` says
-pub record CombineBag (vertex : ℕ) (size slide : ℤ) (begun : Option ℤ) (start held : List FrameValue) (due : ℤ → Bool) (input : Type 0) (taken : List CallEntry) (given : List Item) : Type 0 where
+-- the bag law of a combine vertex that holds these frames, and began with this mark and these frames or with none; `last` is the
+-- last mark that it took. `due` says of a window end that its rows are given, where what was taken is as `input` says
+pub record CombineBag (vertex : ℕ) (size slide : ℤ) (begun last : Option ℤ) (start held : List FrameValue) (due : ℤ → Bool) (input : Type 0) (taken : List CallEntry) (given : List Item) : Type 0 where
+  pub told : last ≡ last_mark taken
   -- events, side rows, idle notes and late items pass, and no frame does
   pub events : events_of given ≡ events_of (items_of taken)
   pub sides : sides_of given ≡ sides_of (items_of taken)
@@ -42,18 +40,21 @@ pub record CombineBag (vertex : ℕ) (size slide : ℤ) (begun : Option ℤ) (st
   pub held_is : input → (e : ℤ) (key : List ℕ) → is_multiple slide e ≡ true → (is_due begun e || due e) ≡ false → total (frame_in size e key) held ≡ total (frame_in size e key) (start ++ frames_of (items_of taken))
   -- a frame is forgotten once its last window is closed: held are only frames of open windows
   pub held_open : IsPolicy size slide → input → Each (λ f. InOpenWindow size slide (λ e. is_due begun e || due_after taken e) f.end) held
+  -- it is one for each end and key, by end, then key
+  pub held_rising : EachPair FramesRise held
+  pub held_vertices : Each (λ f. f.vertex ≡ vertex) held
 
 -- the same in the middle of a call: with the rows that are ready to be given, they are those of the windows up to a time;
--- that is at least the last mark, and no later than the call itself makes due
-pub record CombineBagAmid (vertex : ℕ) (size slide : ℤ) (begun : Option ℤ) (start held : List FrameValue) (taken : List CallEntry) (entry : CallEntry) (given : List Item) : Type 0 where
+-- that is at least the last mark, and no later than the call itself makes due or the mark that the vertex began with
+pub record CombineBagAmid (vertex : ℕ) (size slide : ℤ) (begun last : Option ℤ) (start held : List FrameValue) (taken : List CallEntry) (entry : CallEntry) (given : List Item) : Type 0 where
   pub ready : List RowValue
   pub until : Option ℤ
   pub at_least : StageInput (taken ++ entry ∷ []) → (e : ℤ) → due_after taken e ≡ true → is_due until e ≡ true
-  pub at_most : StageInput (taken ++ entry ∷ []) → (e : ℤ) → is_due until e ≡ true → due_after (taken ++ entry ∷ []) e ≡ true
-  pub bag : CombineBag vertex size slide begun start held (is_due until) (StageInput (taken ++ entry ∷ [])) taken (given ++ map item.Row ready)
+  pub at_most : StageInput (taken ++ entry ∷ []) → (e : ℤ) → is_due until e ≡ true → (is_due begun e || due_after (taken ++ entry ∷ []) e) ≡ true
+  pub bag : CombineBag vertex size slide begun last start held (is_due until) (StageInput (taken ++ entry ∷ [])) taken (given ++ map item.Row ready)
 
 -- what was taken, against what was given or is sure to be given next; `input` says that what was taken is as it is to be
-pub record Promises (vertex : ℕ) (size slide : ℤ) (passed : Option ℤ) (held : Table) (promised : List Item) (input : Type 0) (items : List Item) : Type 0 where
+pub record Promises (vertex : ℕ) (size slide : ℤ) (begun : Option ℤ) (start : List FrameValue) (passed : Option ℤ) (held : Table) (promised : List Item) (input : Type 0) (items : List Item) : Type 0 where
   pub sound : (behind : ℕ → ℕ → Bool) → Shadows (SoundAfter behind) promised items
   pub behind_lates : (behind : ℕ → ℕ → Bool) → Each (LateIsBehind behind) items → Each (LateIsBehind behind) promised
   pub open_ended : Each NotDone promised
@@ -68,7 +69,8 @@ pub record Promises (vertex : ℕ) (size slide : ℤ) (passed : Option ℤ) (hel
   pub own : List RowValue
   pub rows : SameBag (rows_of promised) (rows_of items ++ own)
   pub alone : rows_of items ≡ [] → rows_of promised ≡ own
-  pub fits : input → Fits vertex size slide passed held (frames_of items) own
+  pub begins : Passes begun passed
+  pub fits : input → Fits vertex size slide begun passed held (start ++ frames_of items) own
   pub kept : IsKept held
 
 -- a frame: all else passes
@@ -99,41 +101,49 @@ pub record Combine : Type 0 where
   pub held : Table
   pub ready : List (List ℕ × AccValue)
 
+-- what a vertex began with: a mark and frames, or none
+pub record Start : Type 0 where
+  pub begun : Option ℤ
+  pub frames : List FrameValue
+
 -- what it promises after these entries
-abbrev pub PromisesAfter : Combine → List CallEntry → List Item → Type 0
-PromisesAfter p taken given = Promises p.vertex p.size p.slide p.passed p.held (given ++ pending p.vertex p.end p.ready) (StageInput taken) (items_of taken)
+abbrev pub PromisesAfter : Start → Combine → List CallEntry → List Item → Type 0
+PromisesAfter s p taken given = Promises p.vertex p.size p.slide s.begun s.frames p.passed p.held (given ++ pending p.vertex p.end p.ready) (StageInput taken) (items_of taken)
 
 -- each frame that it holds lies in a window that is open after these entries
-abbrev pub HeldOpen : Combine → List CallEntry → Type 0
-HeldOpen p taken = IsPolicy p.size p.slide → StageInput taken → Each (λ (f : Place × AccValue). InOpenWindow p.size p.slide (due_after taken) f.0.0) p.held
+abbrev pub HeldOpen : Start → Combine → List CallEntry → Type 0
+HeldOpen s p taken = IsPolicy p.size p.slide → StageInput taken → Each (λ (f : Place × AccValue). InOpenWindow p.size p.slide (λ e. is_due s.begun e || due_after taken e) f.0.0) p.held
 
--- between calls nothing is ready, and what passed is the last mark
-pub record CombineStands (p : Combine) (taken : List CallEntry) (given : List Item) : Type 0 where
-  pub promises : PromisesAfter p taken given
+-- between calls nothing is ready, and what passed is the last mark, or the one that it began with where that is later
+pub record CombineStands (s : Start) (last : Option ℤ) (p : Combine) (taken : List CallEntry) (given : List Item) : Type 0 where
+  pub promises : PromisesAfter s p taken given
   pub range : IsWithin most_row_end p.end
+  pub told : last ≡ last_mark taken
   pub put : p.ready ≡ []
-  pub tie : Each NotFinish taken → p.passed ≡ last_mark taken
+  pub tie : Each NotFinish taken → p.passed ≡ later_of s.begun last
   pub ended : StageInput taken → is_finished taken ≡ true → p.held ≡ []
-  pub held_open : HeldOpen p taken
+  pub held_open : HeldOpen s p taken
 
--- within a call for a mark, what passed is at most that mark
-pub record Marking (p : Combine) (taken : List CallEntry) (t : ℤ) (given : List Item) : Type 0 where
-  pub promises : PromisesAfter p taken given
+-- within a call for a mark, what passed is at most that mark, or the one that it began with
+pub record Marking (s : Start) (last : Option ℤ) (p : Combine) (taken : List CallEntry) (t : ℤ) (given : List Item) : Type 0 where
+  pub promises : PromisesAfter s p taken given
   pub range : IsWithin most_row_end p.end
-  pub bound : StageInput (taken ++ MarkTold t ∷ []) → Passes p.passed t
-  pub held_open : HeldOpen p taken
+  pub told : last ≡ last_mark taken
+  pub bound : StageInput (taken ++ MarkTold t ∷ []) → Passes p.passed (later_of s.begun (Some t))
+  pub held_open : HeldOpen s p taken
 
 -- within the finish
-pub record Finishing (p : Combine) (taken : List CallEntry) (given : List Item) : Type 0 where
-  pub promises : PromisesAfter p taken given
+pub record Finishing (s : Start) (last : Option ℤ) (p : Combine) (taken : List CallEntry) (given : List Item) : Type 0 where
+  pub promises : PromisesAfter s p taken given
   pub range : IsWithin most_row_end p.end
-  pub held_open : HeldOpen p taken
+  pub told : last ≡ last_mark taken
+  pub held_open : HeldOpen s p taken
 
-abbrev pub CombineAmid : Combine → List CallEntry → CallEntry → List Item → Type 0
-CombineAmid p taken (Given port q x) given = CombineStands p taken given
-CombineAmid p taken (MarkTold t) given = Marking p taken t given
-CombineAmid p taken (QueueClosed port q) given = CombineStands p taken given
-CombineAmid p taken Finish given = Finishing p taken given
+abbrev pub CombineAmid : Start → Option ℤ → Combine → List CallEntry → CallEntry → List Item → Type 0
+CombineAmid s last p taken (Given port q x) given = CombineStands s last p taken given
+CombineAmid s last p taken (MarkTold t) given = Marking s last p taken t given
+CombineAmid s last p taken (QueueClosed port q) given = CombineStands s last p taken given
+CombineAmid s last p taken Finish given = Finishing s last p taken given
 
 -- what a part of a call does: some rows were put, and what was promised stays promised
 pub record Gave (p : Combine) (before : List Item) (q : Combine) (after : List Item) : Type 0 where
@@ -146,7 +156,7 @@ pub record Gave (p : Combine) (before : List Item) (q : Combine) (after : List I
   pub slide : q.slide ≡ p.slide
   pub range : IsWithin most_row_end p.end → IsWithin most_row_end q.end
   pub kept : IsKept p.held → IsKept q.held
-  pub keeps : (taken : List CallEntry) (given : List Item) → PromisesAfter p taken given → PromisesAfter q taken (given ++ put)
+  pub keeps : (s : Start) (taken : List CallEntry) (given : List Item) → PromisesAfter s p taken given → PromisesAfter s q taken (given ++ put)
 
 -- rows that were ready were put, and the others are still ready
 pub record PutsReady (vertex : ℕ) (e : ℤ) (old : List (List ℕ × AccValue)) (before : List Item) (new : List (List ℕ × AccValue)) (after : List Item) : Type 0 where

@@ -12,9 +12,11 @@ pub mod Held
 pub mod Idles
 pub mod InOrder
 pub mod LateEvents
+pub mod Later
 pub mod Passing
 pub mod Plain
 pub mod PlainLaws
+pub mod Slides
 pub mod StageLaws
 pub mod Tables
 pub mod Taken

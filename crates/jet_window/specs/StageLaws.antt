@@ -13,6 +13,7 @@ use Rattle.jet_boxes.specs.Entry.{CallEntry, Finish, items_of}
 use Rattle.jet_window.specs.FrameStands.{FrameBag}
 use Rattle.jet_window.specs.InOrder.{IsInOrder}
 use Rattle.jet_window.specs.LateEvents.{kept_events}
+use Rattle.jet_window.specs.Later.{newly}
 use Rattle.jet_window.specs.Tables.{is_multiple}
 use Rattle.jet_window.specs.WindowRows.{as_list, rows_at, RowsAre}
 
@@ -33,18 +34,20 @@ pub record RowsOver (w : Window) (due : List ℕ → ℤ → Bool) (held : List 
   pub at : (e : ℤ) (key : List ℕ) → rows_at e key rows ≡ as_list (cond (is_multiple w.slide e && due key e) (both (total (frame_in w.size e key) held) (total (event_in w.size e key) events)) None)
   pub vertices : Each (λ row. row.vertex ≡ w.vertex) rows
 
--- where frames sum events and are dealt by key to m combine instances, in any order, behind frames that were there before (none
--- in a run from the beginning), the rows of all instances are those over the events and these; what is due for a key is what is
--- due at the key's instance, so the instances may stand at different marks
+-- where frames sum events and are dealt by key to m combine instances, in any order, and so are frames that were held before (none
+-- in a run from the beginning), with which the instances began, behind a mark or none: then the rows of all instances are those
+-- over the events and the held frames, of the ends above that mark; what is due for a key is what is due at the key's instance, so
+-- the instances may stand at different marks
 abbrev pub InstancesGiveRows : Type 0
-InstancesGiveRows = (w : Window) (due : List ℕ → ℤ → Bool) (m : ℕ) (owner : List ℕ → ℕ) (held frames : List FrameValue) (mine : ℕ → List FrameValue) (events : List EventValue) (rows : ℕ → List RowValue) (dues : ℕ → ℤ → Bool)
+InstancesGiveRows = (w : Window) (begun : Option ℤ) (due : List ℕ → ℤ → Bool) (m : ℕ) (owner : List ℕ → ℕ) (held frames : List FrameValue) (starts mine : ℕ → List FrameValue) (events : List EventValue) (rows : ℕ → List RowValue) (dues : ℕ → ℤ → Bool)
     → IsPolicy w.size w.slide
     → FramesSum w.slide frames events
     → ((key : List ℕ) → owner key < m)
-    → ((j : ℕ) → j < m → SameBag (mine j) (filter (λ f. owner f.key == j) (held ++ frames)))
-    → ((j : ℕ) → j < m → RowsAre w.vertex w.size w.slide (dues j) (mine j) (rows j))
+    → ((j : ℕ) → j < m → SameBag (starts j) (filter (λ f. owner f.key == j) held))
+    → ((j : ℕ) → j < m → SameBag (mine j) (filter (λ f. owner f.key == j) frames))
+    → ((j : ℕ) → j < m → RowsAre w.vertex w.size w.slide (newly begun (dues j)) (starts j ++ mine j) (rows j))
     → ((key : List ℕ) (e : ℤ) → dues (owner key) e ≡ due key e)
-    → RowsOver w due held events (all_of m rows)
+    → RowsOver w (λ key. newly begun (due key)) held events (all_of m rows)
 
 -- no row where there are no values, else one, whose accumulator is theirs
 abbrev pub IsRowFor : List AccValue → List ℤ → Type 0

@@ -1,5 +1,5 @@
 -- Tables of rows by end and key, and what an event brings to them.
-use Rattle.std.specs.Prelude.{◌≡◌, ℕ, Bool, true, false, ◌&&◌, ℤ, pos, ◌+ℤ◌, ◌≤ℤ◌, ◌<ℤ◌, int_le, List, Option, Some, None, IfSome, bytes_eq}
+use Rattle.std.specs.Prelude.{◌≡◌, ℕ, Bool, ◌&&◌, ℤ, pos, ◌+ℤ◌, ◌≤ℤ◌, ◌<ℤ◌, int_le, List, Option, Some, None, IfSome, bytes_eq}
 use Rattle.std.specs.BTreeMap.{BTreeMap, get}
 use Rattle.std.specs.Int.{int_rem_euclid}
 use Rattle.std.specs.declared.cmp.Ordering.{Ordering}

@@ -1,5 +1,5 @@
 -- What entries that were taken say: the last mark, whether all was ended, and which window ends are due.
-use Rattle.std.specs.Prelude.{◌≡◌, ℕ, Bool, true, false, ◌||◌, ℤ, int_le, List, [], ◌∷◌, Option, Some, None}
+use Rattle.std.specs.Prelude.{◌≡◌, Bool, true, false, ◌||◌, ℤ, int_le, List, [], ◌∷◌, Option, Some, None}
 use Rattle.jet_items.specs.Frames.{covers}
 use Rattle.jet_items.specs.Kinds.{marks_of}
 use Rattle.jet_items.specs.Order.{Closed as ClosedItems}

@@ -13,7 +13,8 @@ pub fn instances_sum_kept()
 {}
 
 /// Several combine instances, to which frames are dealt by key, together give the rows over the events of the frames and
-/// over the frames that were there before, also where they stand at different marks.
+/// over the frames that they began with, of all ends above the mark that they began with, also where they stand at
+/// different marks.
 pub fn instances_give_rows()
     ensures { InstancesGiveRows }
 {}

@@ -34,7 +34,7 @@ returns-then-next-end-clause-some c =
     let some : pos 1 ≤ℤ c.loop-at.self.policy.size = policy.size_low in
     let lt : c.end_above-next.result <ℤ (c.in-Some.at.now.0 +ℤ c.loop-at.self.policy.size) = omega (arith, ints) in
     let above : IsEndAbove c.loop-at.self.policy.slide c.loop-at.self.passed c.in-Some.at.now.0 c.end_above-next.result = subst (λ (z : ℤ). IsEndAbove c.loop-at.self.policy.slide c.loop-at.self.passed z c.end_above-next.result) end c.end_above-next.ensures in
-    rw (← c.loop-at.invariant.policy, ← c.loop-at.invariant.passed)
+    rw (← c.loop-at.invariant.rest.policy, ← c.loop-at.invariant.passed)
     (subst (λ (z : ℤ). IsNextEnd c.loop-at.self.policy.size c.loop-at.self.policy.slide c.loop-at.self.passed c.loop-at.self.held.entries z) next
     (next_end_is c.loop-at.self.policy.size c.loop-at.self.policy.slide c.loop-at.self.passed c.loop-at.self.held.entries (c.in-Some.at.now, c.in-Some.field-0-1.now) c.end_above-next.result c.in-Some.ensures.first kept above lt policy))
 
@@ -55,10 +55,9 @@ loop-at-preserved c =
     let is : c.loop-at.self.held.entries ≡ f ∷ c.pop_first.new.self.entries = popped c.loop-at.self.held.entries c.pop_first.new.self.entries c.pop_first.result f c.in-Some.ensures.first c.pop_first.ensures.variant.1 c.pop_first.ensures.removal in
     let one : Forgets c.loop-at.self.policy.size c.loop-at.self.policy.slide c.loop-at.self.passed c.loop-at.self.held.entries c.pop_first.new.self.entries =
     subst (λ (t : Table). Forgets c.loop-at.self.policy.size c.loop-at.self.policy.slide c.loop-at.self.passed t c.pop_first.new.self.entries) (sym is) (forget_first c.loop-at.self.policy.size c.loop-at.self.policy.slide c.loop-at.self.passed f c.pop_first.new.self.entries c.end_above-next.result above le) in
-    let two : Forgets c.args.self.now.policy.size c.args.self.now.policy.slide c.args.self.now.passed c.loop-at.self.held.entries c.pop_first.new.self.entries = rw (← c.loop-at.invariant.policy, ← c.loop-at.invariant.passed) one in
+    let two : Forgets c.args.self.now.policy.size c.args.self.now.policy.slide c.args.self.now.passed c.loop-at.self.held.entries c.pop_first.new.self.entries = rw (← c.loop-at.invariant.rest.policy, ← c.loop-at.invariant.passed) one in
     record {
-      vertex = c.loop-at.invariant.vertex;
-      policy = c.loop-at.invariant.policy;
+      rest = record { vertex = c.loop-at.invariant.rest.vertex; policy = c.loop-at.invariant.rest.policy; begun = c.loop-at.invariant.rest.begun; start = c.loop-at.invariant.rest.start; last = c.loop-at.invariant.rest.last };
       passed = c.loop-at.invariant.passed;
       end = c.loop-at.invariant.end;
       ready = c.loop-at.invariant.ready;
