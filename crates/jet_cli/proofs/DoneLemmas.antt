@@ -133,6 +133,7 @@ pub pace_is : (c : WindowCommand) (file : ℕ) (before now : ℕ → Bool) (old 
     → KeepsPace c content table before now old new
 pace_is c file before now old start new bytes content closed table opens adds h whole at = record {
   calls = Opened c.file file ∷ h.calls;
+  opens = (refl, h.quiet);
   trace = h.trace ∙ ap (λ (l : List CallMade). l ++ h.calls) opens.trace ∙ append_assoc old.trace (Opened c.file file ∷ []) h.calls;
   paced = λ other fresh added named.
       subst (λ (f : ℕ). IsPaced (base_window c ∷ []) (base_source c content f ∷ []) base_ahead table (Opened c.file file ∷ h.calls)) (sym (added_one file other before now adds fresh added))

@@ -16,6 +16,7 @@ pub mod LoopLemmas
 pub mod MarkLemmas
 pub mod MeetLemmas
 pub mod OneOutput
+pub mod OrderLemmas
 pub mod PaceLemmas
 pub mod PartLemmas
 pub mod ProgressLemmas

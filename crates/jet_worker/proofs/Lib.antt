@@ -1,4 +1,5 @@
 pub mod AllLemmas
+pub mod CallLemmas
 pub mod CheckLemmas
 pub mod CountLemmas
 pub mod DoneLemmas
@@ -8,6 +9,7 @@ pub mod FilesLemmas
 pub mod GoesLemmas
 pub mod LoopLemmas
 pub mod OpenLemmas
+pub mod OrderLemmas
 pub mod PlanLemmas
 pub mod ReadLemmas
 pub mod SideLemmas
