@@ -30,7 +30,7 @@ use Rattle.jet_cli.specs.JobWords.{JobCommand}
 use Rattle.jet_cli.specs.Refusals.{job_refusal, text_refusal, with_options}
 use Rattle.jet_cli.specs.declared.status.Refusal.TheVariants as refusal
 use Rattle.jet_cli.proofs.EarlyLemmas.{none_known}
-use Rattle.jet_cli.proofs.GoesLemmas.{goes_weaker}
+use Rattle.jet_file.proofs.GoesLemmas.{goes_weaker}
 use Rattle.jet_cli.proofs.OrderLemmas.{fails_first, fails_later, reads_only}
 
 -- the files of a check are those of the job in the job file

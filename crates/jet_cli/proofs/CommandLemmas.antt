@@ -39,7 +39,7 @@ use Rattle.jet_cli.specs.declared.halt.Halt.{Halt}
 use Rattle.jet_cli.specs.declared.halt.Halt.TheVariants.{Refused, Stopped}
 use Rattle.jet_cli.specs.declared.job_words.Options.{Options}
 use Rattle.jet_cli.specs.declared.status.Refusal.TheVariants as refusal
-use Rattle.jet_cli.proofs.GoesLemmas.{goes_then, goes_weaker}
+use Rattle.jet_file.proofs.GoesLemmas.{goes_then, goes_weaker}
 use Rattle.jet_cli.proofs.JobLemmas.{same_job, whole}
 use Rattle.jet_cli.proofs.OrderLemmas.{named_after, reads_job, reads_only}
 

@@ -19,7 +19,7 @@ use Rattle.jet_file.specs.Headline.{late_at, Headline}
 use Rattle.jet_file.specs.Outside.{Told, Place, OpensFile, AddsNumber, CallMade, Opened, Read, rest_of}
 use Rattle.jet_file.specs.Text.{row_line, late_line, rows_text, late_text}
 use Rattle.jet_file.specs.declared.outside.Out.TheVariants.{Rows, Notes}
-use Rattle.jet_cli.proofs.ReadLemmas.{opened_rest}
+use Rattle.jet_file.proofs.ReadLemmas.{opened_rest}
 use Rattle.jet_cli.specs.Base.{base_window, base_events, base_inflow, base_behind}
 use Rattle.jet_cli.specs.Counting.{late_among, kept_among, as_late}
 use Rattle.jet_cli.specs.Done.{IsDone}

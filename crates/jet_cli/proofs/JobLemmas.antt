@@ -22,9 +22,9 @@ use Rattle.jet_cli.specs.CallOrder.{job_place, most_text}
 use Rattle.jet_cli.specs.JobFiles.{ReadsJobFile, StopsJob}
 use Rattle.jet_cli.specs.inner.TextReading.{ReadsFront, StopsReading}
 use Rattle.jet_cli.proofs.DoneLemmas.{some_of}
-use Rattle.jet_cli.proofs.GoesLemmas.{goes_then, goes_weaker}
+use Rattle.jet_file.proofs.GoesLemmas.{goes_then, goes_weaker}
 use Rattle.jet_cli.proofs.OrderLemmas.{named_after, opening_named, reads_job, unopened}
-use Rattle.jet_cli.proofs.ReadLemmas.{opened_rest}
+use Rattle.jet_file.proofs.ReadLemmas.{opened_rest}
 
 -- ---- the text of a job file
 -- what was read is the front of all

@@ -11,12 +11,11 @@ use Rattle.jet_lines.specs.Feeds.{NoFeed}
 use Rattle.jet_lines.specs.Files.{events_in, most_lines}
 use Rattle.jet_lines.specs.Lines.{lines_of}
 use Rattle.jet_lines.specs.LinesValue.{LinesValue}
-use Rattle.jet_lines.proofs.CutLemmas.{strip_len}
 use Rattle.jet_lines.specs.declared.cut.Cut.TheVariants as cut
 use Rattle.jet_lines.specs.declared.fault.LineFault.{LineFault}
 use Rattle.jet_file.specs.Text.{row_line}
 use Rattle.jet_file.specs.Outside.{Told, WhereTold, Read, OpensFile, AddsNumber, LacksFile}
-use Rattle.jet_cli.proofs.GoesLemmas.{goes_same, goes_then, goes_weaker}
+use Rattle.jet_file.proofs.GoesLemmas.{goes_same, goes_then, goes_weaker}
 use Rattle.jet_cli.specs.Counting.{Counts, late_among, mark_after}
 use Rattle.jet_cli.specs.Done.{IsDone}
 use Rattle.jet_cli.specs.inner.Ending.{Ends}
@@ -60,36 +59,6 @@ took_piece c file start now next lines lines1 lines' w p more puts told =
     let live : lines1.ended ≡ false = ap (λ (v : LinesValue). v.ended) same ∙ more.0 in
     progress_more c file start now next lines1 lines' w (subst (λ (v : LinesValue). Progress c file start now v w) (sym same) p) live
     (subst (λ (v : LinesValue). NoFeed v.rest (length v.rest)) (sym same) more.1.0) puts told
-
--- the measure
-abbrev flag : Bool → ℕ
-flag b = cond b 0 1
-
-abbrev pub left : LinesValue → ℕ
-left v = (v.most - v.number) * 5002 + (5000 - length v.rest) + cond v.ended 0 1
-
-step_piece : (lines lines' : LinesValue) → lines.ended ≡ false → length lines.rest ≤ 513 → PutsPiece lines lines' → left lines' < left lines
-step_piece lines lines' live short (inl (piece, some, small, is)) =
-    let rest : length lines'.rest ≡ length lines.rest + length piece = ap (λ (v : LinesValue). length v.rest) is ∙ length-append lines.rest piece in
-    let most : lines'.most ≡ lines.most = ap (λ (v : LinesValue). v.most) is in
-    let number : lines'.number ≡ lines.number = ap (λ (v : LinesValue). v.number) is in
-    let ended : flag lines'.ended ≡ 1 = ap flag (ap (λ (v : LinesValue). v.ended) is ∙ live) in
-    let old : flag lines.ended ≡ 1 = ap flag live in
-    let whole : (lines'.most - lines'.number) * 5002 ≡ (lines.most - lines.number) * 5002 = ap (λ (v : LinesValue). (v.most - v.number) * 5002) is in
-    omega (arith, rest, whole, ended, old, short, some, small)
-step_piece lines lines' live short (inr is) =
-    let rest : length lines'.rest ≡ length lines.rest = ap (λ (v : LinesValue). length v.rest) is in
-    let ended : flag lines'.ended ≡ 0 = ap flag (ap (λ (v : LinesValue). v.ended) is) in
-    let old : flag lines.ended ≡ 1 = ap flag live in
-    let whole : (lines'.most - lines'.number) * 5002 ≡ (lines.most - lines.number) * 5002 = ap (λ (v : LinesValue). (v.most - v.number) * 5002) is in
-    omega (arith, rest, whole, ended, old)
-
-pub less_left : (lines lines1 lines' : LinesValue) → NextIs lines cut.More lines1 → PutsPiece lines1 lines' → left lines' < left lines
-less_left lines lines1 lines' more puts =
-    let same : lines1 ≡ lines = more.3 in
-    let short : length lines.rest ≤ 513 = omega (arith, (strip_len lines.rest).1, more.1.1) in
-    subst (λ (v : LinesValue). left lines' < left v) same
-    (step_piece lines1 lines' (ap (λ (v : LinesValue). v.ended) same ∙ more.0) (subst (λ (v : LinesValue). length v.rest ≤ 513) (sym same) short) puts)
 
 -- the run stops at a line that the cutter refused
 pub stops_at_cut : (c : WindowCommand) (file : ℕ) (old start now : Option Told) (lines lines' : LinesValue) (w : WindowCounter) (n : ℕ) (why : LineFault)

@@ -20,7 +20,7 @@ use Rattle.jet_cli.specs.Pacing.{HasPaced, base_ahead, base_mark}
 use Rattle.jet_cli.specs.inner.Progress.{base_rows_text}
 use Rattle.jet_cli.specs.Words.{WindowCommand}
 use Rattle.jet_cli.proofs.RunLemmas.{rest_stays, cancel}
-use Rattle.jet_cli.proofs.GoesLemmas.{goes_then, goes_same}
+use Rattle.jet_file.proofs.GoesLemmas.{goes_then, goes_same}
 use Rattle.jet_lines.specs.Files.{events_in, most_lines, whole_lines}
 use Rattle.jet_cli.specs.Counting.{mark_after}
 use Rattle.jet_cli.specs.inner.Took.{ClosesOn}

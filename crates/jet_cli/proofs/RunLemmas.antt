@@ -2,7 +2,7 @@
 use Rattle.std.proofs.Common.{◌≡◌, ℕ, List, [], ◌∷◌, ◌++◌, length, map, Bool, true, false, Option, refl, ap, sym, ◌∙◌, subst, arith, append-nil, append_assoc, length-append}
 use Rattle.jet_file.specs.Outside.{Told, Place, CallMade, Read, Wrote, WhereTold, rest_of, rest_from}
 use Rattle.jet_file.specs.declared.outside.Out.TheVariants.{Rows, Notes}
-use Rattle.jet_cli.proofs.GoesLemmas.{goes_then, goes_same}
+use Rattle.jet_file.proofs.GoesLemmas.{goes_then, goes_same}
 use Rattle.jet_lines.specs.LinesValue.{LinesValue}
 use Rattle.std.proofs.lemmas.List.Elements.{All-append, All-nil}
 use Rattle.jet_worker.specs.Calls.{IsNoOpening}

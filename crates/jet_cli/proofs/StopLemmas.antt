@@ -12,7 +12,7 @@ use Rattle.jet_lines.specs.declared.fault.LineFault.TheVariants as fault
 use Rattle.jet_lines.proofs.EntryLemmas.{long_event}
 use Rattle.jet_lines.proofs.FileLemmas.{bad_next, numbered_fits, numbered_over}
 use Rattle.jet_file.specs.Outside.{Told, WhereTold, Opened, Opening, OpensFile, Tried, rest_of}
-use Rattle.jet_cli.proofs.ReadLemmas.{opened_rest}
+use Rattle.jet_file.proofs.ReadLemmas.{opened_rest}
 use Rattle.jet_cli.specs.LineStops.{IsBadIn, IsBadLineAt, IsBadOf, RunStops, StepStops}
 use Rattle.jet_cli.specs.inner.Progress.{HasRun, Progress}
 use Rattle.jet_worker.specs.Calls.{Calling, IsNoOpening, OpensInOrder, part_place}
@@ -23,7 +23,7 @@ use Rattle.jet_worker.specs.declared.stop.Call.TheVariants.{Open}
 use Rattle.jet_worker.specs.declared.stop.Spot.TheVariants.{Part}
 use Rattle.jet_worker.proofs.CallLemmas.{none_last}
 use Rattle.jet_worker.proofs.OrderLemmas.{none_in}
-use Rattle.jet_cli.proofs.GoesLemmas.{goes_same, goes_weaker}
+use Rattle.jet_file.proofs.GoesLemmas.{goes_same, goes_weaker}
 use Rattle.jet_cli.proofs.OrderLemmas.{named_after, opening_named}
 use Rattle.std.proofs.lemmas.List.Elements.{All-append}
 use Rattle.jet_cli.specs.Words.{WindowCommand}

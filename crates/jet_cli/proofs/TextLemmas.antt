@@ -11,8 +11,8 @@ use Rattle.jet_worker.specs.declared.stop.Stop.{Stop}
 use Rattle.jet_worker.specs.declared.stop.Stop.TheVariants.{NoMemory}
 use Rattle.jet_worker.proofs.FeedLemmas.{read_last}
 use Rattle.jet_cli.specs.inner.TextReading.{ReadsFront, StopsReading}
-use Rattle.jet_cli.proofs.GoesLemmas.{goes_then, goes_weaker}
-use Rattle.jet_cli.proofs.ReadLemmas.{goes_end, goes_more}
+use Rattle.jet_file.proofs.GoesLemmas.{goes_then, goes_weaker}
+use Rattle.jet_file.proofs.ReadLemmas.{goes_end, goes_more}
 
 -- so much of the text was read, and no call has failed
 pub record TextSoFar {S : Type 0} (told : S → Option Told) (opened : S → ℕ → Bool) (steady : S → Bool) (faults : S → ℕ) (file most : ℕ) (text : List ℕ) (start now : S) : Type 0 where

@@ -11,7 +11,8 @@ rest_later : (o : Option (List ℕ)) (taken n : ℕ) → rest_from o (taken + n)
 rest_later None taken n = sym (drop-nil n)
 rest_later (Some bytes) taken n = sym (drop-drop n taken bytes)
 
-rest_next : (file : ℕ) (buffer : List ℕ) (n : ℕ) (now next : Told) → ReadsFile file buffer n now next → rest_of next file ≡ drop n (rest_of now file)
+-- what a read leaves
+pub rest_next : (file : ℕ) (buffer : List ℕ) (n : ℕ) (now next : Told) → ReadsFile file buffer n now next → rest_of next file ≡ drop n (rest_of now file)
 rest_next file buffer n now next r =
     ap (λ (p : Place). rest_from (next.content p.name) p.taken) r.place
     ∙ ap (λ (content : List ℕ → Option (List ℕ)). rest_from (content (now.place file).name) ((now.place file).taken + n)) r.content

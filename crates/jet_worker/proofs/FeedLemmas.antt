@@ -16,8 +16,8 @@ use Rattle.jet_worker.specs.declared.stop.Call.TheVariants as call
 use Rattle.jet_worker.specs.declared.stop.Spot.{Spot}
 use Rattle.jet_worker.specs.declared.stop.Stop.{Stop}
 use Rattle.jet_worker.specs.declared.stop.Stop.TheVariants.{BadLine, Outside, NoMemory}
-use Rattle.jet_worker.proofs.GoesLemmas.{goes_then, goes_weaker}
-use Rattle.jet_worker.proofs.ReadLemmas.{rest_next}
+use Rattle.jet_file.proofs.GoesLemmas.{goes_then, goes_weaker}
+use Rattle.jet_file.proofs.ReadLemmas.{rest_next}
 
 -- ---- openings and reads
 

@@ -6,12 +6,10 @@ pub mod DoneLemmas
 pub mod FeedLemmas
 pub mod FileLemmas
 pub mod FilesLemmas
-pub mod GoesLemmas
 pub mod LoopLemmas
 pub mod OpenLemmas
 pub mod OrderLemmas
 pub mod PlanLemmas
-pub mod ReadLemmas
 pub mod SideLemmas
 pub mod SourceLemmas
 pub mod StopLemmas

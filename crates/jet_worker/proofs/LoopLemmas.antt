@@ -20,7 +20,7 @@ use Rattle.jet_worker.specs.declared.stop.Spot.TheVariants.{Part}
 use Rattle.jet_worker.specs.declared.stop.Stop.{Stop}
 use Rattle.jet_worker.specs.declared.stop.Stop.TheVariants.{BadLine, Outside, NoMemory}
 use Rattle.jet_worker.specs.declared.tally.Tally.{Tally}
-use Rattle.jet_worker.proofs.GoesLemmas.{goes_same, goes_then, goes_weaker}
+use Rattle.jet_file.proofs.GoesLemmas.{goes_same, goes_then, goes_weaker}
 use Rattle.jet_worker.proofs.TallyLemmas.{bad_is, long_fault, many_fault}
 
 -- what the loop over the lines of a file keeps

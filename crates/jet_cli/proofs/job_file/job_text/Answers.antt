@@ -5,7 +5,7 @@ use Rattle.jet_worker.specs.Calls.{Calling}
 use Rattle.jet_worker.specs.declared.stop.Spot.TheVariants.{Job}
 use Rattle.jet_cli.specs.JobFiles.{ReadsJobFile, StopsJob}
 use Rattle.jet_cli.specs.inner.TextReading.{ReadsFront, StopsReading}
-use Rattle.jet_cli.proofs.GoesLemmas.{if_err_weaker, if_ok_weaker}
+use Rattle.jet_cli.proofs.PartsOfAnswers.{if_err_weaker, if_ok_weaker}
 use Rattle.jet_cli.proofs.JobLemmas.{goes_job_file, goes_stops_after, goes_unopened}
 use Rattle.jet_cli.proofs.job_file.job_text.Goals as goal
 
