@@ -1,6 +1,6 @@
 -- How each command ended, in the words of the top call.
 use Rattle.std.proofs.Common.{◌≡◌, ℕ, List, [], map, append-nil, Bool, true, Option, Some, None, Result, Ok, Err, refl, ap, sym, ◌∙◌, subst, OnOk, pos, ◌≤ℤ◌, ◌<◌, ◌+◌, length, get_or, inl, inr, arith}
-use Rattle.std.specs.Prelude.{IfErr, IfSome, IsSome, IsSomeAnd, ⊤, option_map, slice_get}
+use Rattle.std.specs.Prelude.{IfErr, IfSome, IsSome, IsSomeAnd, option_map, slice_get}
 use Rattle.jet_file.specs.Headline.{WritesNothing}
 use Rattle.jet_file.specs.Outside.{Told, WhereTold, LacksFile}
 use Rattle.jet_worker.specs.Calls.{Calling, ReadsInOrder}

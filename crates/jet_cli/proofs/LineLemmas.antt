@@ -1,6 +1,6 @@
 -- One more line: what it holds, and what counting that writes.
-use Rattle.std.proofs.Common.{◌≡◌, ℕ, Bool, true, false, ◌&&◌, List, [], ◌∷◌, ◌++◌, length, map, append_assoc, refl, ap, sym, ◌∙◌, subst, Option, Some, None, Result, Ok, Err, append-nil, OnOk, ◌≤ℤ◌, ◌<ℤ◌}
-use Rattle.std.specs.Prelude.{nat_le, slice_get, IfErr, IfSome, IsSomeAnd}
+use Rattle.std.proofs.Common.{◌≡◌, ℕ, List, [], ◌∷◌, ◌++◌, map, append_assoc, refl, ap, sym, ◌∙◌, subst, Option, Some, None, Result, Ok, Err, append-nil, OnOk, ◌≤ℤ◌, ◌<ℤ◌}
+use Rattle.std.specs.Prelude.{IfErr, IfSome, IsSomeAnd}
 use Rattle.jet_items.specs.Values.{EventValue, RowValue}
 use Rattle.jet_lines.specs.Readings.{event_line}
 use Rattle.jet_file.specs.Outside.{CallMade, Told, WhereTold, Wrote}
@@ -21,7 +21,6 @@ use Rattle.jet_cli.specs.Words.{WindowCommand}
 use Rattle.jet_cli.proofs.TookLemmas.{stays}
 use Rattle.std.proofs.lemmas.List.Elements.{All-append, All-nil}
 use Rattle.jet_cli.specs.declared.counter.WindowCounter.{WindowCounter}
-use Rattle.jet_worker.specs.declared.stop.Spot.{Spot}
 use Rattle.jet_worker.specs.declared.stop.Stop.{Stop}
 use Rattle.jet_worker.specs.declared.stop.Stop.TheVariants.{BadLine, Outside, NoMemory}
 use Rattle.jet_file.proofs.GoesLemmas.{goes_weaker, goes_same}

@@ -28,7 +28,6 @@ use Rattle.jet_worker.specs.Stopping.{IsCallIn, IsWriting, IsForOutside, IsNoBad
 use Rattle.jet_cli.specs.inner.Took.{Prints}
 use Rattle.jet_cli.specs.Words.{WindowCommand}
 use Rattle.jet_cli.specs.declared.counter.WindowCounter.{WindowCounter}
-use Rattle.jet_worker.specs.declared.stop.Spot.{Spot}
 use Rattle.jet_worker.specs.declared.stop.Spot.TheVariants.{Part}
 use Rattle.jet_worker.specs.declared.stop.Stop.{Stop}
 use Rattle.jet_worker.specs.declared.stop.Stop.TheVariants.{BadLine, Outside, NoMemory}

@@ -1,8 +1,8 @@
 -- That the calls of a command come in their order, and which of them a fault names.
-use Rattle.std.proofs.Common.{◌≡◌, ℕ, suc, ◌+◌, ◌≤◌, List, [], ◌∷◌, ◌++◌, length, map, sum, Option, Some, None, refl, ap, sym, ◌∙◌, subst, arith, append-nil, append_assoc, inl, inr, All}
-use Rattle.std.specs.Prelude.{IsSomeAnd, slice_get}
+use Rattle.std.proofs.Common.{◌≡◌, ℕ, suc, ◌+◌, ◌≤◌, List, [], ◌∷◌, ◌++◌, length, map, sum, Option, Some, refl, ap, sym, ◌∙◌, subst, arith, append-nil, append_assoc, inl, inr, All}
+use Rattle.std.specs.Prelude.{slice_get}
 use Rattle.std.proofs.lemmas.List.Elements.{All-append, All-cons, All-nil}
-use Rattle.jet_file.specs.Outside.{CallMade, Opened, Read, Wrote, Missed, Tried, Opening, Reading, Writing}
+use Rattle.jet_file.specs.Outside.{CallMade, Opened, Read, Missed, Tried, Opening, Reading, Writing}
 use Rattle.jet_file.specs.declared.outside.Out.TheVariants as out
 use Rattle.jet_worker.specs.Calls.{EndsFailed, IsCallOf, IsEnd, IsNoOpening, Turn, opened_by, part_place, turn_calls}
 use Rattle.jet_worker.specs.Stopping.{IsCallIn, LastIs, LastOf}
