@@ -1,19 +1,12 @@
 -- What a check of the files of a valid job is of.
-use Rattle.std.proofs.Common.{◌≡◌, ℕ, zero, suc, ◌<◌, ◌≤◌, ◌%◌, ℤ, pos, negsuc, Bool, true, false, not, List, [], ◌∷◌, ◌++◌, Option, Some, None, refl, arith, nat_le}
-use Rattle.std.specs.Prelude.{◌&&◌, option_map, unsigned_abs}
+use Rattle.std.proofs.Common.{◌≡◌, ℕ, zero, suc, ◌<◌, ◌%◌, List, [], ◌∷◌, None, refl, arith}
+use Rattle.std.specs.Prelude.{unsigned_abs}
 use Rattle.std.specs.Int.{IsGcd, ◌∣◌}
-use Rattle.std.specs.Option.{option_or}
-use Rattle.std.proofs.lemmas.Bool.Decides.{nat_tests}
 use Rattle.std.proofs.lemmas.List.Elements.{All-nil, All-cons, All-head, All-tail, All-weaker}
 use Rattle.std.proofs.lemmas.Nat.Gcd.{IsGcd-from_zero, IsGcd-from_mod, dvd-zero, dvd_trans}
-use Rattle.jet_lines.specs.Files.{most_lines}
 use Rattle.jet_plan.specs.declared.dag.Dag.{Dag}
 use Rattle.jet_plan.specs.declared.settings.Settings.{Settings}
-use Rattle.jet_plan.specs.declared.setting_name.SettingName.TheVariants.{Lines}
-use Rattle.jet_plan.specs.declared.fault.PlanFault.TheVariants.{Setting}
-use Rattle.jet_plan.specs.Faults.{edge_faults, end_faults, fault, large_faults, range_faults, shape_faults}
-use Rattle.jet_plan.specs.First.{first_of, where_true}
-use Rattle.jet_plan.specs.SettingRanges.{is_between, limit_settings, wrong_limit, wrong_setting, wrong_size}
+use Rattle.jet_plan.specs.Faults.{fault}
 use Rattle.jet_flow.specs.DataFiles.{data_files}
 use Rattle.jet_flow.specs.Grain.{IsGreatestDivisor, slides}
 use Rattle.jet_worker.specs.CheckText.{Checks}

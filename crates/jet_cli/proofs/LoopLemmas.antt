@@ -1,7 +1,7 @@
 -- The steps of the loop over a file's lines.
 use Rattle.jet_cli.proofs.PaceLemmas.{goes_paced_appends}
 use Rattle.jet_cli.specs.Pacing.{HasPaced}
-use Rattle.std.proofs.Common.{◌≡◌, ℕ, ◌+◌, ◌-◌, ◌*◌, ◌<◌, ◌≤◌, List, [], ◌++◌, length, Bool, true, false, cond, Option, Some, None, Result, Ok, Err, refl, ap, sym, ◌∙◌, subst, arith, append-nil, length-append, All, inl, inr, OnOk, pos, ℤ, map}
+use Rattle.std.proofs.Common.{◌≡◌, ℕ, ◌+◌, ◌<◌, ◌≤◌, List, [], ◌++◌, length, Bool, true, false, Option, Some, None, Result, Ok, Err, refl, ap, sym, ◌∙◌, subst, append-nil, All, OnOk, pos, ℤ, map}
 use Rattle.std.proofs.lemmas.List.Elements.{All-nil}
 use Rattle.std.specs.Prelude.{IfErr, MatchResult, codes}
 use Rattle.std.proofs.lemmas.Grind.{flat_map-append}
