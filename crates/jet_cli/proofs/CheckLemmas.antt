@@ -1,29 +1,26 @@
 -- What the command `check` comes to.
-use Rattle.std.proofs.Common.{◌≡◌, ℕ, List, [], ◌++◌, length, take, Bool, true, false, Option, Some, None, refl, ap, sym, ◌∙◌, subst, arith, All, inl, inr}
-use Rattle.std.specs.Prelude.{◌≢◌, Any, IsSome, IsSomeAnd, option_map, slice_get, flat_map, ◌==◌}
+use Rattle.std.proofs.Common.{◌≡◌, ℕ, List, [], ◌∷◌, ◌++◌, length, map, take, Bool, true, false, Option, Some, None, refl, ap, sym, ◌∙◌, subst, arith, append-nil, append_assoc, All, inl, inr}
+use Rattle.std.specs.Prelude.{◌≢◌, ◌⊎◌, Any, IsSome, IsSomeAnd, option_map, flat_map, ◌==◌}
 use Rattle.std.specs.Option.{unwrap_or}
 use Rattle.std.proofs.lemmas.List.Elements.{All-weaker}
 use Rattle.jet_lines.specs.declared.fault.LineFault.{LineFault}
-use Rattle.jet_file.specs.Headline.{IsReadWhole}
-use Rattle.jet_file.specs.Outside.{Told, Place, Tried, Opening, Reading, Writing, CallMade, WhereTold, AddsNumber, LacksFile}
+use Rattle.jet_file.specs.Outside.{Told, Place, CallMade, Opened, Read, WhereTold, AddsNumber, LacksFile}
 use Rattle.jet_file.specs.declared.outside.Out.{Out}
 use Rattle.jet_file.specs.declared.outside.Out.TheVariants as out
 use Rattle.jet_flow.specs.DataFiles.{DataFile, data_files, file_name}
 use Rattle.jet_plan.specs.Plans.{IsValid}
 use Rattle.jet_plan.specs.declared.plan.Plan.{Plan}
 use Rattle.jet_worker.specs.CheckText.{Checks, check_line, first_bad}
-use Rattle.jet_worker.specs.Checked.{CheckStops, IsBadLine, IsCheckOf, IsChecked, IsGood, IsRead, LacksSome, check_lines, name_in, numbered}
-use Rattle.jet_worker.specs.Stopping.{EndsFailed, IsCallOf}
-use Rattle.jet_worker.specs.declared.stop.Call.{Call}
-use Rattle.jet_worker.specs.declared.stop.Call.TheVariants.{Open, Read, Write}
-use Rattle.jet_worker.specs.declared.stop.Spot.{Spot}
-use Rattle.jet_worker.specs.declared.stop.Spot.TheVariants.{Job, Part, Rows, Notes}
+use Rattle.jet_worker.specs.Checked.{CheckStops, IsBadLine, IsBegun, IsCheckOf, IsChecked, IsGood, IsRead, LacksSome, check_lines, numbered}
+use Rattle.jet_worker.specs.Calls.{Calling, ReadsInOrder}
 use Rattle.jet_worker.specs.declared.stop.Stop.{Stop}
 use Rattle.jet_worker.specs.declared.stop.Stop.TheVariants.{BadLine, Outside, NoMemory}
 use Rattle.jet_plan.specs.Faults.{fault}
 use Rattle.jet_plan.specs.declared.dag.Dag.{Dag}
 use Rattle.jet_plan.specs.declared.settings.Settings.{Settings}
-use Rattle.jet_cli.specs.CheckedJob.{CheckHalts, HasChecks, IsCheckedJob, LacksFiles, check_name, files_in, files_of}
+use Rattle.jet_worker.proofs.OrderLemmas.{no_calls}
+use Rattle.jet_cli.specs.CheckedJob.{CheckHalts, HasChecks, IsCheckedJob, LacksFiles, WhyHalted}
+use Rattle.jet_cli.specs.JobData.{files_in, files_of}
 use Rattle.jet_cli.specs.inner.Halting.{IsKnown, IsNoBadHalt}
 use Rattle.jet_cli.specs.JobFiles.{ReadHalts, ReadsPlan}
 use Rattle.jet_cli.specs.declared.halt.Halt.{Halt}
@@ -33,52 +30,12 @@ use Rattle.jet_cli.specs.JobWords.{JobCommand}
 use Rattle.jet_cli.specs.Refusals.{job_refusal, text_refusal, with_options}
 use Rattle.jet_cli.specs.declared.status.Refusal.TheVariants as refusal
 use Rattle.jet_cli.proofs.EarlyLemmas.{none_known}
-use Rattle.jet_cli.proofs.GoesLemmas.{goes_weaker}
-use Rattle.jet_cli.proofs.StopLemmas.{stop_later}
-
--- ---- names
--- a namer that names more names the same call
-call_named : (names more : Spot → Option (List ℕ)) (told : Told) (call : Call) (spot : Spot) (tried : Tried) → ((s : Spot) (name : List ℕ) → names s ≡ Some name → more s ≡ Some name)
-    → IsCallOf names told call spot tried → IsCallOf more told call spot tried
-call_named names more told Open spot (Opening name) f h = f spot name h
-call_named names more told Open spot (Reading file) f h = absurd h
-call_named names more told Open spot (Writing to) f h = absurd h
-call_named names more told Read spot (Opening name) f h = absurd h
-call_named names more told Read spot (Reading file) f h = f spot (told.place file).name h
-call_named names more told Read spot (Writing to) f h = absurd h
-call_named names more told Write Rows (Writing out.Rows) f h = tt
-call_named names more told Write Rows (Writing out.Notes) f h = absurd h
-call_named names more told Write Rows (Opening name) f h = absurd h
-call_named names more told Write Rows (Reading file) f h = absurd h
-call_named names more told Write Notes (Writing out.Notes) f h = tt
-call_named names more told Write Notes (Writing out.Rows) f h = absurd h
-call_named names more told Write Notes (Opening name) f h = absurd h
-call_named names more told Write Notes (Reading file) f h = absurd h
-call_named names more told Write Job (Opening name) f h = absurd h
-call_named names more told Write Job (Reading file) f h = absurd h
-call_named names more told Write Job (Writing to) f h = absurd h
-call_named names more told Write (Part p) (Opening name) f h = absurd h
-call_named names more told Write (Part p) (Reading file) f h = absurd h
-call_named names more told Write (Part p) (Writing to) f h = absurd h
-
-no_name : {P : Type 0} (name : List ℕ) → let n : Option (List ℕ) = None in n ≡ Some name → P
-no_name name h = absurd (cc h)
+use Rattle.jet_file.proofs.GoesLemmas.{goes_weaker}
+use Rattle.jet_cli.proofs.OrderLemmas.{fails_first, fails_later, reads_only}
 
 -- the files of a check are those of the job in the job file
-files_are : (c : JobCommand) (old : Told) (h : HasChecks c old) → files_of (old.content c.job) ≡ h.checks.files
+pub files_are : (c : JobCommand) (old : Told) (h : HasChecks c old) → files_of (old.content c.job) ≡ h.checks.files
 files_are c old h = ap files_of h.content_is ∙ ap files_in h.job_is ∙ sym h.is.files
-
-name_more : (c : JobCommand) (old : Told) (h : HasChecks c old) (s : Spot) (name : List ℕ) → name_in h.checks s ≡ Some name → check_name c old.content s ≡ Some name
-name_more c old h (Part p) name is = ap (λ (files : List DataFile). option_map file_name (slice_get files p)) (files_are c old h) ∙ is
-name_more c old h Job name is = no_name name is
-name_more c old h Rows name is = no_name name is
-name_more c old h Notes name is = no_name name is
-
-fails_named : (c : JobCommand) (old : Told) (h : HasChecks c old) (call : Call) (spot : Spot) (mid new : Told) (more : List CallMade) → mid.trace ≡ old.trace ++ more
-    → EndsFailed (name_in h.checks) call spot mid new → EndsFailed (check_name c old.content) call spot old new
-fails_named c old h call spot mid new more is f =
-    let later : EndsFailed (name_in h.checks) call spot old new = stop_later (name_in h.checks) (Outside call spot) more old mid new is f in
-    record { before = later.before; tried = later.tried; trace = later.trace; is = call_named (name_in h.checks) (check_name c old.content) new call spot later.tried (name_more c old h) later.is }
 
 -- ---- from the reading of the job file on
 module _ (k : Checks) (old mid : Told) (kept : mid.content ≡ old.content) (written : mid.written ≡ old.written) where
@@ -120,13 +77,27 @@ module _ (k : Checks) (old mid : Told) (kept : mid.content ≡ old.content) (wri
       fresh_if true is = absurd (both (now file) adds.added (ap now (sym (same_is n file is)) ∙ h))
       fresh_if false is = sym (adds.others n (not_same n file is)) ∙ h
 
-  read_more : (file : ℕ) (before opened now : ℕ → Bool) (new : Told) → AddsNumber file before opened → (p : ℕ × DataFile) → IsRead opened now mid new p → IsRead before now old new p
-  read_more file before opened now new adds p h =
-      some_read (old.content (file_name p.1)) (subst (λ (ct : List ℕ → Option (List ℕ)). IsSomeAnd (ct (file_name p.1)) (λ content. IsReadWhole (file_name p.1) content opened now new)) kept h)
-    where
-      some_read : (o : Option (List ℕ)) → IsSomeAnd o (λ content. IsReadWhole (file_name p.1) content opened now new) → IsSomeAnd o (λ content. IsReadWhole (file_name p.1) content before now new)
-      some_read None h = h
-      some_read (Some content) h = record { file = h.file; fresh = fresh_before file before opened adds h.file h.fresh; opened = h.opened; place = h.place }
+  begun_same : (new : Told) → IsBegun k mid new → IsBegun k old new
+  begun_same new b = record {
+    n = b.n;
+    front = b.front;
+    rest = b.rest;
+    there = subst (λ (ct : List ℕ → Option (List ℕ)). (b.front ≡ []) ⊎ All (λ (f : DataFile). IsSome (ct (file_name f))) k.files) kept b.there;
+    good = good_same (take b.n (numbered k)) b.good;
+    parts = sym (lines_same (take b.n (numbered k))) ∙ b.parts;
+    rows = b.rows ∙ ap (λ w. w out.Rows ++ b.front) written;
+    notes = b.notes ∙ ap (λ w. w out.Notes) written;
+    kept = b.kept ∙ kept;
+  }
+
+  read_more : (file : ℕ) (before opened now : ℕ → Bool) (calls : List CallMade) (new : Told) → AddsNumber file before opened → (p : ℕ × DataFile) → IsRead opened now calls mid new p → IsRead before now calls old new p
+  read_more file before opened now calls new adds p h = record {
+    at = h.at;
+    opening = h.opening;
+    fresh = fresh_before file before opened adds h.at h.fresh;
+    opened = h.opened;
+    place = subst (λ (ct : List ℕ → Option (List ℕ)). IsSomeAnd (ct (file_name p.1)) (λ content. new.place h.at ≡ record { name = file_name p.1; taken = length content })) kept h.place;
+  }
 
   -- a number that was open is another one than the job file's
   not_new : (file : ℕ) (before opened : ℕ → Bool) → AddsNumber file before opened → (n : ℕ) → before n ≡ true → n ≢ file
@@ -135,11 +106,12 @@ module _ (k : Checks) (old mid : Told) (kept : mid.content ≡ old.content) (wri
       no : true ≡ false → ⊥
       no h = cc h
 
-  checked_same : (file : ℕ) (before opened now : ℕ → Bool) (new : Told) → AddsNumber file before opened → ((other : ℕ) → other ≢ file → mid.place other ≡ old.place other) → IsChecked k opened now mid new
-      → IsChecked k before now old new
-  checked_same file before opened now new adds others d = record {
+  checked_same : (file : ℕ) (before opened now : ℕ → Bool) (calls : List CallMade) (new : Told) → AddsNumber file before opened → ((other : ℕ) → other ≢ file → mid.place other ≡ old.place other) → IsChecked k opened now calls mid new
+      → IsChecked k before now calls old new
+  checked_same file before opened now calls new adds others d = record {
+    order = d.order;
     good = good_same (numbered k) d.good;
-    read = All-weaker (IsRead opened now mid new) (IsRead before now old new) (λ p h. read_more file before opened now new adds p h) (numbered k) d.read;
+    read = All-weaker (IsRead opened now calls mid new) (IsRead before now calls old new) (λ p h. read_more file before opened now calls new adds p h) (numbered k) d.read;
     rows = wrote_same out.Rows (new.written out.Rows) (numbered k) d.rows;
     notes = d.notes ∙ ap (λ w. w out.Notes) written;
     kept = d.kept ∙ kept;
@@ -173,52 +145,99 @@ goes_of_all c plan P T before opened valid f (Some a) (Some b) (Some d) r all =
     let found = checks_of c plan before opened a b valid r in
     f a b d r found.0 (all found.0.checks found.1)
 
+-- the calls for the job file
+abbrev job_calls : List ℕ → ℕ → List ℕ → List CallMade
+job_calls name file counts = Opened name file ∷ map (Read file) counts
+
+-- calls behind those for the job file
+then_calls : (a b d first later : List CallMade) → b ≡ a ++ first → d ≡ b ++ later → d ≡ a ++ (first ++ later)
+then_calls a b d first later one two = two ∙ ap (λ (l : List CallMade). l ++ later) one ∙ append_assoc a first later
+
 pub goes_checked : (c : JobCommand) (plan : Plan) (before opened now : ℕ → Bool) → plan_valid plan → (old mid new : Option Told) → WhereTold (ReadsPlan c plan before opened) old mid
-    → ((k : Checks) → IsCheckOf plan.dag plan.settings k → WhereTold (IsChecked k opened now) mid new) → WhereTold (IsCheckedJob c before now) old new
+    → ((k : Checks) → IsCheckOf plan.dag plan.settings k → WhereTold (Calling (IsChecked k opened now)) mid new) → WhereTold (Calling (IsCheckedJob c before now)) old new
 goes_checked c plan before opened now valid =
-    goes_of_all c plan (λ k. IsChecked k opened now) (IsCheckedJob c before now) before opened valid
+    goes_of_all c plan (λ k. Calling (IsChecked k opened now)) (Calling (IsCheckedJob c before now)) before opened valid
     (λ a b d r h k. record {
-      job = h;
-      read = record {
-        file = r.file;
-        fresh = r.opened.fresh;
-        opened = k.opened r.file r.opened.added;
-        place = k.places r.file r.opened.added ∙ r.place ∙ ap (λ (t : List ℕ). let p : Place = record { name = c.job; taken = length t } in p) (same_some r.content h.content (sym r.content_is ∙ h.content_is));
+      calls = job_calls c.job r.file r.counts ++ k.calls;
+      trace = then_calls a.trace b.trace d.trace (job_calls c.job r.file r.counts) k.calls r.trace k.trace;
+      did = record {
+        job = h;
+        read = record {
+          file = r.file;
+          fresh = r.opened.fresh;
+          opened = k.did.opened r.file r.opened.added;
+          place = k.did.places r.file r.opened.added ∙ r.place ∙ ap (λ (t : List ℕ). let p : Place = record { name = c.job; taken = length t } in p) (same_some r.content h.content (sym r.content_is ∙ h.content_is));
+        };
+        first = job_calls c.job r.file r.counts;
+        later = k.calls;
+        calls_are = refl;
+        reads = reads_only c.job r.file r.counts r.few;
+        files = checked_same h.checks a b r.kept r.written r.file before opened now k.calls d r.opened r.others k.did;
       };
-      files = checked_same h.checks a b r.kept r.written r.file before opened now d r.opened r.others k;
     })
   where
     same_some : (x y : List ℕ) → Some x ≡ Some y → x ≡ y
     same_some x y h = cc h
 
-halts_check : (c : JobCommand) (stop : Stop) (a b d : Told) (more : List CallMade) → b.trace ≡ a.trace ++ more → b.content ≡ a.content → b.written ≡ a.written → (h : HasChecks c a) → CheckStops h.checks stop b d
-    → CheckHalts c (Stopped stop) a d
-halts_check c (BadLine part line why) a b d more is kept written h s = record { job = h; bad = bad_same h.checks a b kept written part line why d s }
-halts_check c (Outside call spot) a b d more is kept written h s = fails_named c a h call spot b d more is s.0
-halts_check c NoMemory a b d more is kept written h s = tt
+-- why the check of the files stopped, behind the calls for the job file
+why_stopped : (c : JobCommand) (stop : Stop) (file : ℕ) (counts : List ℕ) (a b d : Told) → b.content ≡ a.content → b.written ≡ a.written → (h : HasChecks c a) (later : List CallMade) → CheckStops h.checks stop later b d
+    → WhyHalted c (Stopped stop) (job_calls c.job file counts ++ later) a d
+why_stopped c (BadLine part line why) file counts a b d kept written h later k = record {
+  job = h;
+  first = job_calls c.job file counts;
+  later = later;
+  calls_are = refl;
+  order = k.order;
+  turn = k.why.0;
+  bad = bad_same h.checks a b kept written part line why d k.why.1;
+}
+why_stopped c (Outside call spot) file counts a b d kept written h later k = (fails_later c.job file counts call spot later k.why.0, inr (h, begun_same h.checks a b kept written d k.why.1))
+why_stopped c NoMemory file counts a b d kept written h later k = inr (h, begun_same h.checks a b kept written d k.why)
+
+halts_check : (c : JobCommand) (plan : Plan) (stop : Stop) (before opened : ℕ → Bool) (a b d : Told) (r : ReadsPlan c plan before opened a b) (h : HasChecks c a) → Calling (CheckStops h.checks stop) b d → Calling (CheckHalts c (Stopped stop)) a d
+halts_check c plan stop before opened a b d r h k = record {
+  calls = job_calls c.job r.file r.counts ++ k.calls;
+  trace = then_calls a.trace b.trace d.trace (job_calls c.job r.file r.counts) k.calls r.trace k.trace;
+  did = record {
+    order = record {
+      first = job_calls c.job r.file r.counts;
+      later = k.calls;
+      calls_are = refl;
+      job = reads_only c.job r.file r.counts r.few;
+      files = subst (λ (files : List DataFile). ReadsInOrder (map file_name files) k.calls) (sym (files_are c a h)) k.did.order;
+    };
+    why = why_stopped c stop r.file r.counts a b d r.kept r.written h k.calls k.did;
+  };
+}
 
 pub goes_check_stops : (c : JobCommand) (plan : Plan) (stop : Stop) (before opened : ℕ → Bool) → plan_valid plan → (old mid new : Option Told) → WhereTold (ReadsPlan c plan before opened) old mid
-    → ((k : Checks) → IsCheckOf plan.dag plan.settings k → WhereTold (CheckStops k stop) mid new) → WhereTold (CheckHalts c (Stopped stop)) old new
+    → ((k : Checks) → IsCheckOf plan.dag plan.settings k → WhereTold (Calling (CheckStops k stop)) mid new) → WhereTold (Calling (CheckHalts c (Stopped stop))) old new
 goes_check_stops c plan stop before opened valid =
-    goes_of_all c plan (λ k. CheckStops k stop) (CheckHalts c (Stopped stop)) before opened valid
-    (λ a b d r h s. halts_check c stop a b d r.calls r.trace r.kept r.written h s)
+    goes_of_all c plan (λ k. Calling (CheckStops k stop)) (Calling (CheckHalts c (Stopped stop))) before opened valid (λ a b d r h s. halts_check c plan stop before opened a b d r h s)
 
 -- the job of files that were checked is not refused
 pub goes_check_known : (c : JobCommand) (plan : Plan) (stop : Stop) (before opened : ℕ → Bool) → plan_valid plan → (old mid new : Option Told) → WhereTold (ReadsPlan c plan before opened) old mid
-    → ((k : Checks) → IsCheckOf plan.dag plan.settings k → WhereTold (CheckStops k stop) mid new) → WhereTold (λ a b. IsKnown (text_refusal c.options (a.content c.job)) (Stopped stop)) old new
+    → ((k : Checks) → IsCheckOf plan.dag plan.settings k → WhereTold (Calling (CheckStops k stop)) mid new) → WhereTold (λ a b. IsKnown (text_refusal c.options (a.content c.job)) (Stopped stop)) old new
 goes_check_known c plan stop before opened valid =
-    goes_of_all c plan (λ k. CheckStops k stop) (λ a b. IsKnown (text_refusal c.options (a.content c.job)) (Stopped stop)) before opened valid
+    goes_of_all c plan (λ k. Calling (CheckStops k stop)) (λ a b. IsKnown (text_refusal c.options (a.content c.job)) (Stopped stop)) before opened valid
     (λ a b d r h s. none_known (text_refusal c.options (a.content c.job)) (Stopped stop) (ap (text_refusal c.options) h.content_is ∙ ap (job_refusal c.options) h.job_is ∙ ap (option_map refusal.Plan) h.valid))
 
 -- the reading of the job file ended early
-halts_read : (c : JobCommand) (halt : Halt) (a b : Told) → IsNoBadHalt halt → ReadHalts c halt a b → CheckHalts c halt a b
-halts_read c (Refused why) a b never h = h
-halts_read c (Stopped (BadLine part line why)) a b never h = absurd never
-halts_read c (Stopped (Outside call spot)) a b never h = h.told (check_name c a.content) refl
-halts_read c (Stopped NoMemory) a b never h = tt
+why_read : (c : JobCommand) (halt : Halt) (calls : List CallMade) (a b : Told) → IsNoBadHalt halt → ReadHalts c halt calls a b → WhyHalted c halt calls a b
+why_read c (Refused why) calls a b never h = (h.why, h.written)
+why_read c (Stopped (BadLine part line why)) calls a b never h = absurd never
+why_read c (Stopped (Outside call spot)) calls a b never h = (fails_first call spot calls h.why, inl h.written)
+why_read c (Stopped NoMemory) calls a b never h = inl h.written
 
-pub goes_halts_read : (c : JobCommand) (halt : Halt) (old new : Option Told) → IsNoBadHalt halt → WhereTold (ReadHalts c halt) old new → WhereTold (CheckHalts c halt) old new
-goes_halts_read c halt old new never = goes_weaker (ReadHalts c halt) (CheckHalts c halt) (λ a b h. halts_read c halt a b never h) old new
+pub goes_halts_read : (c : JobCommand) (halt : Halt) (old new : Option Told) → IsNoBadHalt halt → WhereTold (Calling (ReadHalts c halt)) old new → WhereTold (Calling (CheckHalts c halt)) old new
+goes_halts_read c halt old new never = goes_weaker (Calling (ReadHalts c halt)) (Calling (CheckHalts c halt)) (λ a b h. record {
+  calls = h.calls;
+  trace = h.trace;
+  did = record {
+    order = record { first = h.calls; later = []; calls_are = sym (append-nil h.calls); job = h.did.order; files = no_calls (map file_name (files_of (a.content c.job))) };
+    why = why_read c halt h.calls a b never h.did;
+  };
+}) old new
 
 -- which file is not there
 pub lacks_job : (c : JobCommand) (told : Option Told) → LacksFile c.job told → LacksFiles c told

@@ -19,7 +19,7 @@ use Rattle.jet_file.specs.Headline.{late_at, Headline}
 use Rattle.jet_file.specs.Outside.{Told, Place, OpensFile, AddsNumber, CallMade, Opened, Read, rest_of}
 use Rattle.jet_file.specs.Text.{row_line, late_line, rows_text, late_text}
 use Rattle.jet_file.specs.declared.outside.Out.TheVariants.{Rows, Notes}
-use Rattle.jet_cli.proofs.ReadLemmas.{opened_rest}
+use Rattle.jet_file.proofs.ReadLemmas.{opened_rest}
 use Rattle.jet_cli.specs.Base.{base_window, base_events, base_inflow, base_behind}
 use Rattle.jet_cli.specs.Counting.{late_among, kept_among, as_late}
 use Rattle.jet_cli.specs.Done.{IsDone}
@@ -133,6 +133,7 @@ pub pace_is : (c : WindowCommand) (file : ℕ) (before now : ℕ → Bool) (old 
     → KeepsPace c content table before now old new
 pace_is c file before now old start new bytes content closed table opens adds h whole at = record {
   calls = Opened c.file file ∷ h.calls;
+  opens = (refl, h.quiet);
   trace = h.trace ∙ ap (λ (l : List CallMade). l ++ h.calls) opens.trace ∙ append_assoc old.trace (Opened c.file file ∷ []) h.calls;
   paced = λ other fresh added named.
       subst (λ (f : ℕ). IsPaced (base_window c ∷ []) (base_source c content f ∷ []) base_ahead table (Opened c.file file ∷ h.calls)) (sym (added_one file other before now adds fresh added))

@@ -1,28 +1,28 @@
 -- How each command ended, in the words of the top call.
-use Rattle.std.proofs.Common.{◌≡◌, ℕ, List, Bool, true, Option, Some, None, Result, Ok, Err, refl, ap, sym, ◌∙◌, subst, OnOk, pos, ◌≤ℤ◌, ◌<◌, ◌+◌, length, get_or, inl, inr, arith}
-use Rattle.std.specs.Prelude.{IfErr, IfSome, IsSome, IsSomeAnd, ⊤, option_map, slice_get}
+use Rattle.std.proofs.Common.{◌≡◌, ℕ, List, [], map, append-nil, Bool, true, Option, Some, None, Result, Ok, Err, refl, ap, sym, ◌∙◌, subst, OnOk, pos, ◌≤ℤ◌, ◌<◌, ◌+◌, length, get_or, inl, inr, arith}
+use Rattle.std.specs.Prelude.{IfErr, IfSome, IsSome, IsSomeAnd, option_map, slice_get}
 use Rattle.jet_file.specs.Headline.{WritesNothing}
 use Rattle.jet_file.specs.Outside.{Told, WhereTold, LacksFile}
-use Rattle.jet_worker.specs.Stopping.{EndsFailed}
+use Rattle.jet_worker.specs.Calls.{Calling, ReadsInOrder}
 use Rattle.jet_worker.specs.declared.stop.Stop.TheVariants.{BadLine, Outside, NoMemory}
-use Rattle.jet_cli.specs.Base.{base_name}
+use Rattle.jet_cli.specs.CallOrder.{IsInOrder}
 use Rattle.jet_cli.specs.BaseJob.{base_fault}
 use Rattle.jet_flow.specs.DataFiles.{DataFile, file_name}
 use Rattle.jet_worker.specs.CheckText.{first_bad}
 use Rattle.jet_worker.specs.Checked.{IsGood}
-use Rattle.jet_cli.specs.CheckedJob.{AreGoodFiles, CheckHalts, HasChecks, HasDataFiles, IsBadLineOf, IsCheckedJob, LacksFiles, files_of}
+use Rattle.jet_cli.specs.CheckedJob.{AreGoodFiles, CheckHalts, HasChecks, HasDataFiles, IsBadLineOf, IsCheckedJob, LacksFiles}
+use Rattle.jet_cli.specs.JobData.{files_of}
 use Rattle.jet_lines.specs.declared.fault.LineFault.{LineFault}
 use Rattle.std.specs.List.{All, Any, enumerate_from}
 use Rattle.std.proofs.lemmas.Option.{get_or_from_slice_get, slice_get_within}
 use Rattle.std.proofs.lemmas.List.FromFn.{get_or-enumerate_from, length-enumerate_from}
-use Rattle.jet_cli.specs.Commands.{StaysQuiet}
+use Rattle.jet_cli.specs.Commands.{HasBegun, StaysQuiet}
 use Rattle.jet_cli.specs.Done.{IsDone, IsQuiet, IsQuietInTime}
-use Rattle.jet_cli.specs.inner.Halting.{HaltOutcome, HaltTold, IsKnown, IsNoBadHalt, IsOutsideHalt, IsRefusal}
+use Rattle.jet_cli.specs.inner.Halting.{HaltOutcome, IsKnown, IsNoBadHalt, IsOutsideHalt, IsRefusal}
 use Rattle.jet_cli.proofs.EarlyLemmas.{goes_unread}
-use Rattle.jet_cli.specs.JobFiles.{job_name}
 use Rattle.jet_cli.specs.JobWords.{JobCommand}
 use Rattle.jet_cli.specs.LineStops.{BaseHalts, IsFirstBadLine, RunStops}
-use Rattle.jet_cli.specs.Planned.{IsJobRead, IsPlanned}
+use Rattle.jet_cli.specs.Planned.{IsJobRead, IsPlanned, PlanHalts}
 use Rattle.jet_cli.specs.Refusals.{RefusalIs, base_refusal, job_refusal, text_refusal}
 use Rattle.jet_cli.specs.Words.{WindowCommand, WindowOf, PlanOf, CheckOf}
 use Rattle.jet_cli.specs.declared.halt.Halt.{Halt}
@@ -30,8 +30,9 @@ use Rattle.jet_cli.specs.declared.halt.Halt.TheVariants.{Refused, Stopped}
 use Rattle.jet_cli.specs.declared.status.Refusal.{Refusal}
 use Rattle.jet_cli.specs.declared.status.Refusal.TheVariants as refusal
 use Rattle.jet_cli.proofs.AnswerLemmas.{in_time_is, never_bad, quiet_is}
-use Rattle.jet_cli.proofs.GoesLemmas.{goes_same, goes_weaker}
-use Rattle.jet_cli.proofs.MeetLemmas.{Facts, Halted}
+use Rattle.jet_file.proofs.GoesLemmas.{goes_same, goes_weaker}
+use Rattle.jet_cli.proofs.MeetLemmas.{Begun, Facts, Fails, Halted}
+use Rattle.jet_cli.proofs.CheckLemmas.{files_are}
 
 -- where the file is there, it does not lack
 lacks_not : (name : List ℕ) (told : Option Told) → LacksFile name told → IsSomeAnd told (λ t. IsSome (t.content name)) → ⊥
@@ -55,16 +56,34 @@ base_halted : (c : WindowCommand) (old now : Option Told) (same : Type 0) → (s
 base_halted c old now same untold (Refused why) untouched h =
     (h, subst (λ (n : Option Told). WhereTold WritesNothing old n) (sym (untold (untouched tt))) (goes_same WritesNothing (λ a. refl) old), λ none. untouched tt)
 base_halted c old now same untold (Stopped (BadLine p l w)) untouched h =
-    let bad : WhereTold (λ a b. IsFirstBadLine c p l w a) old now = goes_weaker (RunStops c (BadLine p l w)) (λ a b. IsFirstBadLine c p l w a) (λ a b s. s.1) old now h.0 in
+    let bad : WhereTold (λ a b. IsFirstBadLine c p l w a) old now = goes_weaker (Calling (RunStops c (BadLine p l w))) (λ a b. IsFirstBadLine c p l w a) (λ a b s. s.did.bad) old now h.0 in
     (bad, λ cause is. no_refusal c cause h.1 is, λ good. never_bad c old now p l w good bad)
 base_halted c old now same untold (Stopped (Outside call spot)) untouched h =
-    (goes_weaker (RunStops c (Outside call spot)) (λ a. EndsFailed (base_name c) call spot a) (λ a b s. s.0) old now h.0, λ cause is. absurd (no_refusal c cause h.1 is))
+    (goes_weaker (Calling (RunStops c (Outside call spot))) (Fails (WindowOf c) call spot) (λ a b s. record { calls = s.calls; trace = s.trace; did = s.did.fails }) old now h.0, λ cause is. absurd (no_refusal c cause h.1 is))
 base_halted c old now same untold (Stopped NoMemory) untouched h = tt
 
 base_halted_of : {T : Type 0} (r : Result T Halt) (c : WindowCommand) (old now : Option Told) (same : Type 0) → (same → now ≡ old) → IfErr r (λ halt. IsRefusal halt → same) → IfErr r (BaseHalts c old now)
     → IfErr r (Halted (WindowOf c) old now same)
 base_halted_of (Ok x) c old now same untold untouched h = tt
 base_halted_of (Err halt) c old now same untold untouched h = base_halted c old now same untold halt untouched h
+
+-- the calls of `window`, however it ended
+base_calls : (c : WindowCommand) (before after : ℕ → Bool) (old now : Option Told) (r : Result (Unit {0}) Halt) (same : Type 0) → (same → now ≡ old) → OnOk r (WhereTold (IsDone c before after) old now) → IfErr r (λ halt. IsRefusal halt → same)
+    → IfErr r (BaseHalts c old now) → WhereTold (Calling (IsInOrder (WindowOf c))) old now
+base_calls c before after old now (Ok d) same untold done untouched halt =
+    goes_weaker (IsDone c before after) (Calling (IsInOrder (WindowOf c))) (λ a b h. record { calls = h.pace.calls; trace = h.pace.trace; did = h.pace.opens }) old now done
+base_calls c before after old now (Err (Refused why)) same untold done untouched halt =
+    subst (λ (n : Option Told). WhereTold (Calling (IsInOrder (WindowOf c))) old n) (sym (untold (untouched tt))) (goes_same (Calling (IsInOrder (WindowOf c))) (λ a. record { calls = []; trace = sym (append-nil a.trace); did = tt }) old)
+base_calls c before after old now (Err (Stopped stop)) same untold done untouched halt =
+    goes_weaker (Calling (RunStops c stop)) (Calling (IsInOrder (WindowOf c))) (λ a b h. record { calls = h.calls; trace = h.trace; did = h.did.opens }) old now halt.0
+
+-- what is begun where nothing is said of it
+begun_none : (c : WindowCommand) (old now : Option Told) (r : Result (Unit {0}) Halt) → WhereTold (Calling (IsInOrder (WindowOf c))) old now → IfErr r (Begun (WindowOf c) old now)
+begun_none c old now (Ok d) h = tt
+begun_none c old now (Err (Refused why)) h = tt
+begun_none c old now (Err (Stopped (BadLine p l w))) h = tt
+begun_none c old now (Err (Stopped (Outside call spot))) h = goes_weaker (Calling (IsInOrder (WindowOf c))) (HasBegun (WindowOf c)) (λ a b s. tt) old now h
+begun_none c old now (Err (Stopped NoMemory)) h = goes_weaker (Calling (IsInOrder (WindowOf c))) (HasBegun (WindowOf c)) (λ a b s. tt) old now h
 
 pub base_facts : {S : Type 0} (told : S → Option Told) (opened : S → ℕ → Bool) (steady : S → Bool) (faults : S → ℕ) (c : WindowCommand) (old now : S) (r : Result (Unit {0}) Halt)
     → OnOk r (pos 1 ≤ℤ pos c.slide)
@@ -75,7 +94,10 @@ base_facts told opened steady faults c old now r slide done valid halt untouched
     let quiet : OnOk r (WhereTold (IsQuiet c) (told old) (told now)) =
     weaker_ok r (WhereTold (IsDone c (opened old) (opened now)) (told old) (told now)) (WhereTold (IsQuiet c) (told old) (told now))
     (goes_weaker (IsDone c (opened old) (opened now)) (IsQuiet c) (quiet_is c (opened old) (opened now)) (told old) (told now)) done in
+    let calls : WhereTold (Calling (IsInOrder (WindowOf c))) (told old) (told now) = base_calls c (opened old) (opened now) (told old) (told now) r (now ≡ old) (λ is. ap told is) done untouched halt in
     record {
+      calls = calls;
+      begun = begun_none c (told old) (told now) r calls;
       done = done;
       quiet = quiet;
       in_time = in_time_on r slide quiet;
@@ -104,47 +126,65 @@ job_not_refused c why before now None new r is = is
 job_not_refused c why before now (Some a) None r is = r
 job_not_refused c why before now (Some a) (Some b) r is = none_some (text_refusal c.options (a.content c.job)) why (read_not_refused c before now a b r) is
 
-refused_told : (c : JobCommand) (why : Refusal) (names : Told → Told → Type 0) (old new : Option Told)
-    → WhereTold (λ a b. (text_refusal c.options (a.content c.job) ≡ Some why) × (b.written ≡ a.written)) old new → IfSome old (λ t. text_refusal c.options (t.content c.job) ≡ Some why)
-refused_told c why names None new h = tt
-refused_told c why names (Some a) None h = absurd h
-refused_told c why names (Some a) (Some b) h = h.0
+refused_told : (c : JobCommand) (why : Refusal) (old new : Option Told) → WhereTold (λ a b. text_refusal c.options (a.content c.job) ≡ Some why) old new → IfSome old (λ t. text_refusal c.options (t.content c.job) ≡ Some why)
+refused_told c why None new h = tt
+refused_told c why (Some a) None h = absurd h
+refused_told c why (Some a) (Some b) h = h
 
 plan_halted : (c : JobCommand) (old now : Option Told) (same : Type 0) (halt : Halt) → IsNoBadHalt halt → WhereTold (λ a b. IsKnown (text_refusal c.options (a.content c.job)) halt) old now
-    → WhereTold (λ a. HaltTold (job_name c) (text_refusal c.options (a.content c.job)) halt a) old now
-    → Halted (PlanOf c) old now same halt
+    → WhereTold (Calling (PlanHalts c halt)) old now → Halted (PlanOf c) old now same halt
 plan_halted c old now same (Refused why) never known h = (
-  refused_told c why (λ a b. ⊤) old now h,
-  goes_weaker (λ a b. (text_refusal c.options (a.content c.job) ≡ Some why) × (b.written ≡ a.written)) WritesNothing (λ a b k. k.1) old now h,
+  refused_told c why old now (goes_weaker (Calling (PlanHalts c (Refused why))) (λ a b. text_refusal c.options (a.content c.job) ≡ Some why) (λ a b k. k.did.why.0) old now h),
+  goes_weaker (Calling (PlanHalts c (Refused why))) WritesNothing (λ a b k. k.did.why.1) old now h,
   λ none. absurd none,
 )
 plan_halted c old now same (Stopped (BadLine p l w)) never known h = absurd never
-plan_halted c old now same (Stopped (Outside call spot)) never known h = (h, goes_unread c call spot old now known)
+plan_halted c old now same (Stopped (Outside call spot)) never known h = (
+  goes_weaker (Calling (PlanHalts c (Stopped (Outside call spot)))) (Fails (PlanOf c) call spot) (λ a b k. record { calls = k.calls; trace = k.trace; did = k.did.why.0 }) old now h,
+  goes_unread c call spot old now known,
+)
 plan_halted c old now same (Stopped NoMemory) never known h = tt
 
 plan_halted_of : {T : Type 0} (r : Result T Halt) (c : JobCommand) (old now : Option Told) (same : Type 0) → IfErr r IsNoBadHalt
     → IfErr r (λ halt. WhereTold (λ a b. IsKnown (text_refusal c.options (a.content c.job)) halt) old now)
-    → IfErr r (λ halt. WhereTold (λ a. HaltTold (job_name c) (text_refusal c.options (a.content c.job)) halt a) old now) → IfErr r (Halted (PlanOf c) old now same)
+    → IfErr r (λ halt. WhereTold (Calling (PlanHalts c halt)) old now) → IfErr r (Halted (PlanOf c) old now same)
 plan_halted_of (Ok x) c old now same never known h = tt
 plan_halted_of (Err halt) c old now same never known h = plan_halted c old now same halt never known h
 
+-- the calls of `plan`, however it ended, and what it has written then
+plan_calls : (c : JobCommand) (before after : ℕ → Bool) (old now : Option Told) (r : Result (Unit {0}) Halt) → OnOk r (WhereTold (Calling (IsPlanned c before after)) old now) → IfErr r (λ halt. WhereTold (Calling (PlanHalts c halt)) old now)
+    → WhereTold (Calling (IsInOrder (PlanOf c))) old now
+plan_calls c before after old now (Ok d) done halt =
+    goes_weaker (Calling (IsPlanned c before after)) (Calling (IsInOrder (PlanOf c))) (λ a b h. record { calls = h.calls; trace = h.trace; did = h.did.order }) old now done
+plan_calls c before after old now (Err e) done halt =
+    goes_weaker (Calling (PlanHalts c e)) (Calling (IsInOrder (PlanOf c))) (λ a b h. record { calls = h.calls; trace = h.trace; did = h.did.order }) old now halt
+
+plan_begun : (c : JobCommand) (old now : Option Told) (r : Result (Unit {0}) Halt) → IfErr r (λ halt. WhereTold (Calling (PlanHalts c halt)) old now) → IfErr r (Begun (PlanOf c) old now)
+plan_begun c old now (Ok d) h = tt
+plan_begun c old now (Err (Refused why)) h = tt
+plan_begun c old now (Err (Stopped (BadLine p l w))) h = tt
+plan_begun c old now (Err (Stopped (Outside call spot))) h = goes_weaker (Calling (PlanHalts c (Stopped (Outside call spot)))) (HasBegun (PlanOf c)) (λ a b k. k.did.why.1) old now h
+plan_begun c old now (Err (Stopped NoMemory)) h = goes_weaker (Calling (PlanHalts c (Stopped NoMemory))) (HasBegun (PlanOf c)) (λ a b k. k.did.why) old now h
+
 pub plan_facts : {S : Type 0} (told : S → Option Told) (opened : S → ℕ → Bool) (steady : S → Bool) (faults : S → ℕ) (c : JobCommand) (old now : S) (r : Result (Unit {0}) Halt)
-    → OnOk r (WhereTold (IsPlanned c (opened old) (opened now)) (told old) (told now))
-    → IfErr r (λ halt. WhereTold (λ a. HaltTold (job_name c) (text_refusal c.options (a.content c.job)) halt a) (told old) (told now)) → IfErr r IsNoBadHalt
+    → OnOk r (WhereTold (Calling (IsPlanned c (opened old) (opened now))) (told old) (told now))
+    → IfErr r (λ halt. WhereTold (Calling (PlanHalts c halt)) (told old) (told now)) → IfErr r IsNoBadHalt
     → IfErr r (λ halt. WhereTold (λ a b. IsKnown (text_refusal c.options (a.content c.job)) halt) (told old) (told now))
     → HaltOutcome steady faults old now r → (steady old ≡ true → IfErr r (λ halt. IsOutsideHalt halt → LacksFile c.job (told old)))
     → Facts told opened steady faults (PlanOf c) old now r
 plan_facts told opened steady faults c old now r done halt never known outcome works =
-    let planned : Type 0 = WhereTold (IsPlanned c (opened old) (opened now)) (told old) (told now) in
+    let planned : Type 0 = WhereTold (Calling (IsPlanned c (opened old) (opened now))) (told old) (told now) in
     let quiet : OnOk r (WhereTold (StaysQuiet (PlanOf c)) (told old) (told now)) =
-    weaker_ok r planned (WhereTold (StaysQuiet (PlanOf c)) (told old) (told now)) (goes_weaker (IsPlanned c (opened old) (opened now)) (StaysQuiet (PlanOf c)) (λ a b p. p.notes_written) (told old) (told now)) done in
+    weaker_ok r planned (WhereTold (StaysQuiet (PlanOf c)) (told old) (told now)) (goes_weaker (Calling (IsPlanned c (opened old) (opened now))) (StaysQuiet (PlanOf c)) (λ a b p. p.did.notes_written) (told old) (told now)) done in
     record {
+      calls = plan_calls c (opened old) (opened now) (told old) (told now) r done halt;
+      begun = plan_begun c (told old) (told now) r halt;
       done = done;
       quiet = quiet;
       in_time = quiet;
       valid = weaker_ok r planned ((why : Refusal) → RefusalIs (Some why) (PlanOf c) (told old) → ⊥)
           (λ p why is. job_not_refused c why (opened old) (opened now) (told old) (told now)
-          (goes_weaker (IsPlanned c (opened old) (opened now)) (IsJobRead c (opened old) (opened now)) (λ a b q. q.job) (told old) (told now) p) is) done;
+          (goes_weaker (Calling (IsPlanned c (opened old) (opened now))) (IsJobRead c (opened old) (opened now)) (λ a b q. q.did.job) (told old) (told now) p) is) done;
       halted = plan_halted_of r c (told old) (told now) (now ≡ old) never known halt;
       outcome = outcome;
       works = λ s. lacks_of r c.job (told old) (works s);
@@ -192,48 +232,81 @@ bad_not_good : (o : Option (List ℕ)) (f : List ℕ → Option (ℕ × LineFaul
 bad_not_good None f b good bad = good
 bad_not_good (Some content) f b good bad = cc (sym good ∙ bad)
 
-bad_in_good : (c : JobCommand) (part line : ℕ) (why : LineFault) (old new : Option Told) → WhereTold (IsBadLineOf c part line why) old new → IsSomeAnd old (AreGoodFiles c) → ⊥
+bad_in_good : (c : JobCommand) (part line : ℕ) (why : LineFault) (old new : Option Told) → WhereTold (Calling (IsBadLineOf c part line why)) old new → IsSomeAnd old (AreGoodFiles c) → ⊥
 bad_in_good c part line why None new h good = good
 bad_in_good c part line why (Some a) None h good = h
 bad_in_good c part line why (Some a) (Some b) h good =
-    let k = h.job.checks in
-    bad_not_good (a.content (file_name h.bad.file)) (first_bad k (part, h.bad.file)) (line, why)
-    (all_at (IsGood k a) k.files part h.bad.file h.bad.is (good h.job)) h.bad.bad
+    let k = h.did.job.checks in
+    let bad = h.did.bad in
+    bad_not_good (a.content (file_name bad.file)) (first_bad k (part, bad.file)) (line, why) (all_at (IsGood k a) k.files part bad.file bad.is (good h.did.job)) bad.bad
 
-check_halted : (c : JobCommand) (old now : Option Told) (same : Type 0) (halt : Halt) → WhereTold (λ a b. IsKnown (text_refusal c.options (a.content c.job)) halt) old now → WhereTold (CheckHalts c halt) old now → Halted (CheckOf c) old now same halt
+check_halted : (c : JobCommand) (old now : Option Told) (same : Type 0) (halt : Halt) → WhereTold (λ a b. IsKnown (text_refusal c.options (a.content c.job)) halt) old now → WhereTold (Calling (CheckHalts c halt)) old now
+    → Halted (CheckOf c) old now same halt
 check_halted c old now same (Refused why) known h = (
-  refused_told c why (λ a b. ⊤) old now h,
-  goes_weaker (λ a b. (text_refusal c.options (a.content c.job) ≡ Some why) × (b.written ≡ a.written)) WritesNothing (λ a b k. k.1) old now h,
+  refused_told c why old now (goes_weaker (Calling (CheckHalts c (Refused why))) (λ a b. text_refusal c.options (a.content c.job) ≡ Some why) (λ a b k. k.did.why.0) old now h),
+  goes_weaker (Calling (CheckHalts c (Refused why))) WritesNothing (λ a b k. k.did.why.1) old now h,
   λ none. absurd none,
 )
-check_halted c old now same (Stopped (BadLine p l w)) known h = (
-  h,
-  λ cause is. check_not_refused c cause old now (goes_weaker (IsBadLineOf c p l w) (λ a b. HasChecks c a) (λ a b k. k.job) old now h) is,
-  λ good. bad_in_good c p l w old now h good,
+check_halted c old now same (Stopped (BadLine p l w)) known h =
+    let bad : WhereTold (Calling (IsBadLineOf c p l w)) old now =
+    goes_weaker (Calling (CheckHalts c (Stopped (BadLine p l w)))) (Calling (IsBadLineOf c p l w)) (λ a b k. record { calls = k.calls; trace = k.trace; did = k.did.why }) old now h in (
+      bad,
+      λ cause is. check_not_refused c cause old now (goes_weaker (Calling (IsBadLineOf c p l w)) (λ a b. HasChecks c a) (λ a b k. k.did.job) old now bad) is,
+      λ good. bad_in_good c p l w old now bad good,
+    )
+check_halted c old now same (Stopped (Outside call spot)) known h = (
+  goes_weaker (Calling (CheckHalts c (Stopped (Outside call spot)))) (Fails (CheckOf c) call spot) (λ a b k. record { calls = k.calls; trace = k.trace; did = k.did.why.0 }) old now h,
+  goes_unread c call spot old now known,
 )
-check_halted c old now same (Stopped (Outside call spot)) known h = (h, goes_unread c call spot old now known)
 check_halted c old now same (Stopped NoMemory) known h = tt
 
+-- the calls of `check`, however it ended, and what it has written then
+check_calls : (c : JobCommand) (before after : ℕ → Bool) (old now : Option Told) (r : Result (Unit {0}) Halt) → OnOk r (WhereTold (Calling (IsCheckedJob c before after)) old now) → IfErr r (λ halt. WhereTold (Calling (CheckHalts c halt)) old now)
+    → WhereTold (Calling (IsInOrder (CheckOf c))) old now
+check_calls c before after old now (Ok d) done halt =
+    goes_weaker (Calling (IsCheckedJob c before after)) (Calling (IsInOrder (CheckOf c))) (λ a b h. record {
+      calls = h.calls;
+      trace = h.trace;
+      did = record {
+        first = h.did.first;
+        later = h.did.later;
+        calls_are = h.did.calls_are;
+        job = h.did.reads;
+        files = subst (λ (files : List DataFile). ReadsInOrder (map file_name files) h.did.later) (sym (files_are c a h.did.job)) h.did.files.order;
+      };
+    }) old now done
+check_calls c before after old now (Err e) done halt =
+    goes_weaker (Calling (CheckHalts c e)) (Calling (IsInOrder (CheckOf c))) (λ a b h. record { calls = h.calls; trace = h.trace; did = h.did.order }) old now halt
+
+check_begun : (c : JobCommand) (old now : Option Told) (r : Result (Unit {0}) Halt) → IfErr r (λ halt. WhereTold (Calling (CheckHalts c halt)) old now) → IfErr r (Begun (CheckOf c) old now)
+check_begun c old now (Ok d) h = tt
+check_begun c old now (Err (Refused why)) h = tt
+check_begun c old now (Err (Stopped (BadLine p l w))) h = tt
+check_begun c old now (Err (Stopped (Outside call spot))) h = goes_weaker (Calling (CheckHalts c (Stopped (Outside call spot)))) (HasBegun (CheckOf c)) (λ a b k. k.did.why.1) old now h
+check_begun c old now (Err (Stopped NoMemory)) h = goes_weaker (Calling (CheckHalts c (Stopped NoMemory))) (HasBegun (CheckOf c)) (λ a b k. k.did.why) old now h
+
 check_halted_of : {T : Type 0} (r : Result T Halt) (c : JobCommand) (old now : Option Told) (same : Type 0)
-    → IfErr r (λ halt. WhereTold (λ a b. IsKnown (text_refusal c.options (a.content c.job)) halt) old now) → IfErr r (λ halt. WhereTold (CheckHalts c halt) old now) → IfErr r (Halted (CheckOf c) old now same)
+    → IfErr r (λ halt. WhereTold (λ a b. IsKnown (text_refusal c.options (a.content c.job)) halt) old now) → IfErr r (λ halt. WhereTold (Calling (CheckHalts c halt)) old now) → IfErr r (Halted (CheckOf c) old now same)
 check_halted_of (Ok x) c old now same known h = tt
 check_halted_of (Err halt) c old now same known h = check_halted c old now same halt known h
 
 pub check_facts : {S : Type 0} (told : S → Option Told) (opened : S → ℕ → Bool) (steady : S → Bool) (faults : S → ℕ) (c : JobCommand) (old now : S) (r : Result (Unit {0}) Halt)
-    → OnOk r (WhereTold (IsCheckedJob c (opened old) (opened now)) (told old) (told now)) → IfErr r (λ halt. WhereTold (CheckHalts c halt) (told old) (told now))
+    → OnOk r (WhereTold (Calling (IsCheckedJob c (opened old) (opened now))) (told old) (told now)) → IfErr r (λ halt. WhereTold (Calling (CheckHalts c halt)) (told old) (told now))
     → IfErr r (λ halt. WhereTold (λ a b. IsKnown (text_refusal c.options (a.content c.job)) halt) (told old) (told now))
     → HaltOutcome steady faults old now r → (steady old ≡ true → IfErr r (λ halt. IsOutsideHalt halt → LacksFiles c (told old)))
     → Facts told opened steady faults (CheckOf c) old now r
 check_facts told opened steady faults c old now r done halt known outcome works =
-    let checked : Type 0 = WhereTold (IsCheckedJob c (opened old) (opened now)) (told old) (told now) in
+    let checked : Type 0 = WhereTold (Calling (IsCheckedJob c (opened old) (opened now))) (told old) (told now) in
     let quiet : OnOk r (WhereTold (StaysQuiet (CheckOf c)) (told old) (told now)) =
-    weaker_ok r checked (WhereTold (StaysQuiet (CheckOf c)) (told old) (told now)) (goes_weaker (IsCheckedJob c (opened old) (opened now)) (StaysQuiet (CheckOf c)) (λ a b k. k.files.notes) (told old) (told now)) done in
+    weaker_ok r checked (WhereTold (StaysQuiet (CheckOf c)) (told old) (told now)) (goes_weaker (Calling (IsCheckedJob c (opened old) (opened now))) (StaysQuiet (CheckOf c)) (λ a b k. k.did.files.notes) (told old) (told now)) done in
     record {
+      calls = check_calls c (opened old) (opened now) (told old) (told now) r done halt;
+      begun = check_begun c (told old) (told now) r halt;
       done = done;
       quiet = quiet;
       in_time = quiet;
       valid = weaker_ok r checked ((why : Refusal) → RefusalIs (Some why) (CheckOf c) (told old) → ⊥)
-          (λ k why is. check_not_refused c why (told old) (told now) (goes_weaker (IsCheckedJob c (opened old) (opened now)) (λ a b. HasChecks c a) (λ a b q. q.job) (told old) (told now) k) is) done;
+          (λ k why is. check_not_refused c why (told old) (told now) (goes_weaker (Calling (IsCheckedJob c (opened old) (opened now))) (λ a b. HasChecks c a) (λ a b q. q.did.job) (told old) (told now) k) is) done;
       halted = check_halted_of r c (told old) (told now) (now ≡ old) known halt;
       outcome = outcome;
       works = λ s. lacks_files_of r c (told old) (works s);

@@ -1,22 +1,30 @@
 -- What the reading of a job file comes to.
-use Rattle.std.proofs.Common.{◌≡◌, ℕ, ◌+◌, ◌<◌, ◌≤◌, List, [], ◌∷◌, ◌++◌, length, take, map, Bool, true, false, Option, Some, Ok, Err, refl, ap, sym, ◌∙◌, arith, append-nil, append_assoc, inl, inr}
+use Rattle.std.proofs.Common.{◌≡◌, ℕ, ◌+◌, ◌<◌, ◌≤◌, List, [], ◌∷◌, ◌++◌, length, take, map, sum, Bool, true, false, Option, Ok, Err, refl, ap, sym, ◌∙◌, subst, arith, append-nil, append_assoc, inl, inr}
 use Rattle.std.specs.Prelude.{◌⊎◌, nat_lt}
 use Rattle.std.proofs.Math.Seq.{take-append_seam}
 use Rattle.std.proofs.lemmas.Bool.Decides.{nat_tests}
 use Rattle.std.proofs.lemmas.List.{take_all, length-take-le}
-use Rattle.jet_file.specs.Outside.{Told, Place, CallMade, Read, Opened, WhereTold, OpensFile, AddsNumber, rest_of}
+use Rattle.jet_file.specs.Outside.{Told, Place, CallMade, Read, Opened, Opening, WhereTold, OpensFile, AddsNumber, Tried, rest_of}
 use Rattle.jet_job.specs.Jobs.{job_at}
 use Rattle.jet_job.specs.declared.fault.JobFault.TheVariants.{Long}
 use Rattle.jet_job.specs.declared.job_text.JobText.{JobText}
-use Rattle.jet_worker.specs.Feeding.{StopsAt}
+use Rattle.jet_worker.specs.Calls.{Calling, turn_calls}
+use Rattle.jet_worker.specs.Feeding.{FailsAt}
+use Rattle.jet_worker.specs.Stopping.{IsCallIn}
+use Rattle.jet_worker.specs.declared.stop.Call.{Call}
+use Rattle.jet_worker.specs.declared.stop.Call.TheVariants.{Open}
 use Rattle.jet_worker.specs.declared.stop.Spot.{Spot}
+use Rattle.jet_worker.specs.declared.stop.Spot.TheVariants.{Job}
 use Rattle.jet_worker.specs.declared.stop.Stop.{Stop}
-use Rattle.jet_cli.specs.JobFiles.{ReadsJobFile, most_text}
+use Rattle.jet_worker.proofs.CallLemmas.{ends_last, none_last}
+use Rattle.jet_worker.proofs.OrderLemmas.{none_in}
+use Rattle.jet_cli.specs.CallOrder.{job_place, most_text}
+use Rattle.jet_cli.specs.JobFiles.{ReadsJobFile, StopsJob}
 use Rattle.jet_cli.specs.inner.TextReading.{ReadsFront, StopsReading}
 use Rattle.jet_cli.proofs.DoneLemmas.{some_of}
-use Rattle.jet_cli.proofs.GoesLemmas.{goes_then}
-use Rattle.jet_cli.proofs.ReadLemmas.{opened_rest}
-use Rattle.jet_cli.proofs.StopLemmas.{stop_later}
+use Rattle.jet_file.proofs.GoesLemmas.{goes_then, goes_weaker}
+use Rattle.jet_cli.proofs.OrderLemmas.{named_after, opening_named, reads_job, unopened}
+use Rattle.jet_file.proofs.ReadLemmas.{opened_rest}
 
 -- ---- the text of a job file
 -- what was read is the front of all
@@ -50,9 +58,13 @@ reads_job_file name text file most before now a b c is adds o r =
       others = λ other ne. r.read.others other ne ∙ o.others other ne;
       kept = r.read.content ∙ o.content;
       written = r.read.written ∙ o.written;
-      calls = Opened name file ∷ map (Read file) r.read.counts;
+      counts = r.read.counts;
+      few = few r.read.counts text most r.read.sum r.short is;
       trace = r.read.trace ∙ ap (λ (t : List CallMade). t ++ map (Read file) r.read.counts) o.trace ∙ append_assoc a.trace (Opened name file ∷ []) (map (Read file) r.read.counts);
     }
+  where
+    few : (counts text : List ℕ) (most : ℕ) → sum counts ≡ length text → length text ≤ most → most ≡ most_text → sum counts ≤ most_text
+    few counts text most all short is = omega (arith, all, short, is)
 
 pub goes_job_file : (name text : List ℕ) (file most : ℕ) (before now : ℕ → Bool) (old mid new : Option Told) → most ≡ most_text → AddsNumber file before now → WhereTold (OpensFile name file) old mid
     → WhereTold (ReadsFront file most text) mid new → WhereTold (ReadsJobFile name text before now) old new
@@ -60,18 +72,34 @@ goes_job_file name text file most before now old mid new is adds =
     goes_then (OpensFile name file) (ReadsFront file most text) (ReadsJobFile name text before now) (λ a b c o r. reads_job_file name text file most before now a b c is adds o r) old mid new
 
 -- the reading of a file that was opened stopped
-stops_after : (spot : Spot) (name : List ℕ) (file : ℕ) (stop : Stop) (a b c : Told) → OpensFile name file a b → StopsReading spot file stop b c → StopsAt spot name stop a c
-stops_after spot name file stop a b c o s =
-    let named : (b.place file).name ≡ name = ap (λ (p : Place). p.name) o.place in
+stops_after : (name : List ℕ) (file most : ℕ) (stop : Stop) (a b c : Told) → most ≡ most_text → OpensFile name file a b → StopsReading Job file most stop b c → Calling (StopsJob name stop) a c
+stops_after name file most stop a b c is o s =
+    let counts : List ℕ = s.reads.counts in
+    let last : List CallMade = s.reads.last in
+    let such : Call → Spot → Tried → Type 0 = IsCallIn Job file in
     record {
-      told = λ name_of is. stop_later name_of stop (Opened name file ∷ []) a b c o.trace (s.told name_of (is ∙ ap Some (sym named)));
-      content = s.content ∙ o.content;
-      written = s.written ∙ o.written;
+      calls = Opened name file ∷ (turn_calls (record { file = file; counts = counts; lengths = [] }) ++ last);
+      trace = s.reads.trace ∙ ap (λ (l : List CallMade). l ++ map (Read file) counts ++ last) o.trace ∙ append_assoc (a.trace ++ Opened name file ∷ []) (map (Read file) counts) last
+          ∙ append_assoc a.trace (Opened name file ∷ []) (map (Read file) counts ++ last) ∙ ap (λ (l : List CallMade). a.trace ++ (Opened name file ∷ (l ++ last))) (sym (append-nil (map (Read file) counts)));
+      did = record {
+        order = reads_job name file counts [] last (subst (λ (n : ℕ). sum counts ≤ n) is s.few) (none_last such stop last (none_in Job file) s.reads.fails) (ends_last such stop last s.reads.fails);
+        fails = named_after job_place Job name file (turn_calls (record { file = file; counts = counts; lengths = [] })) stop last refl s.reads.fails;
+        written = s.reads.written ∙ o.written;
+      };
     }
 
-pub goes_stops_after : (spot : Spot) (name : List ℕ) (file : ℕ) (stop : Stop) (old mid new : Option Told) → WhereTold (OpensFile name file) old mid → WhereTold (StopsReading spot file stop) mid new
-    → WhereTold (StopsAt spot name stop) old new
-goes_stops_after spot name file stop = goes_then (OpensFile name file) (StopsReading spot file stop) (StopsAt spot name stop) (stops_after spot name file stop)
+pub goes_stops_after : (name : List ℕ) (file most : ℕ) (stop : Stop) (old mid new : Option Told) → most ≡ most_text → WhereTold (OpensFile name file) old mid → WhereTold (StopsReading Job file most stop) mid new
+    → WhereTold (Calling (StopsJob name stop)) old new
+goes_stops_after name file most stop old mid new is =
+    goes_then (OpensFile name file) (StopsReading Job file most stop) (Calling (StopsJob name stop)) (λ a b c o s. stops_after name file most stop a b c is o s) old mid new
+
+-- the file could not be opened
+pub goes_unopened : (name : List ℕ) (stop : Stop) (old new : Option Told) → WhereTold (FailsAt Open Job (Opening name) stop) old new → WhereTold (Calling (StopsJob name stop)) old new
+goes_unopened name stop = goes_weaker (FailsAt Open Job (Opening name) stop) (Calling (StopsJob name stop)) (λ a b s. record {
+  calls = s.last;
+  trace = ap (λ (t : Told). t.trace) s.same;
+  did = record { order = unopened name stop s.last s.is; fails = opening_named job_place Job name stop s.last refl s.is; written = ap (λ (t : Told). t.written) s.same };
+})
 
 -- ---- the job of a text
 abbrev is_long : List ℕ → Bool

@@ -6,7 +6,6 @@ pub mod Cuts
 pub mod DoneLemmas
 pub mod EarlyLemmas
 pub mod FactLemmas
-pub mod GoesLemmas
 pub mod GrainLemmas
 pub mod JobLemmas
 pub mod KeptLemmas
@@ -16,10 +15,11 @@ pub mod LoopLemmas
 pub mod MarkLemmas
 pub mod MeetLemmas
 pub mod OneOutput
+pub mod OrderLemmas
 pub mod PaceLemmas
 pub mod PartLemmas
+pub mod PartsOfAnswers
 pub mod ProgressLemmas
-pub mod ReadLemmas
 pub mod ReadSpellings
 pub mod RunLemmas
 pub mod SpellingLemmas

@@ -1,28 +1,29 @@
 -- One more line: what it holds, and what counting that writes.
-use Rattle.std.proofs.Common.{◌≡◌, ℕ, Bool, true, false, ◌&&◌, List, [], ◌∷◌, ◌++◌, length, refl, ap, sym, ◌∙◌, subst, Option, Some, None, Result, Ok, Err, append-nil, OnOk, ◌≤ℤ◌, ◌<ℤ◌}
-use Rattle.std.specs.Prelude.{nat_le, slice_get, IfErr, IfSome, IsSomeAnd}
+use Rattle.std.proofs.Common.{◌≡◌, ℕ, List, [], ◌∷◌, ◌++◌, map, append_assoc, refl, ap, sym, ◌∙◌, subst, Option, Some, None, Result, Ok, Err, append-nil, OnOk, ◌≤ℤ◌, ◌<ℤ◌}
+use Rattle.std.specs.Prelude.{IfErr, IfSome, IsSomeAnd}
 use Rattle.jet_items.specs.Values.{EventValue, RowValue}
 use Rattle.jet_lines.specs.Readings.{event_line}
-use Rattle.jet_file.specs.Outside.{Told, WhereTold}
+use Rattle.jet_file.specs.Outside.{CallMade, Told, WhereTold, Wrote}
 use Rattle.jet_file.specs.declared.outside.Out.TheVariants.{Rows, Notes}
 use Rattle.jet_policy.specs.MarkerValue.{MarkerValue}
 use Rattle.jet_window.specs.Plain.{PlainValue}
 use Rattle.jet_cli.specs.Counting.{Counts, mark_after}
 use Rattle.jet_cli.specs.inner.Ending.{Ends}
-use Rattle.jet_worker.specs.Feeding.{Appends, Flushes}
+use Rattle.jet_worker.specs.Calls.{IsNoOpening}
+use Rattle.jet_worker.specs.Feeding.{Appends, Flushes, StopsAppending}
+use Rattle.jet_worker.proofs.CallLemmas.{none_writes}
 use Rattle.jet_cli.specs.inner.Finished.{Finished}
-use Rattle.jet_cli.specs.LineStops.{IsBadLineAt, LineStop}
+use Rattle.jet_cli.specs.LineStops.{IsBadLineAt, LineStop, StepStops}
 use Rattle.jet_cli.specs.inner.Progress.{TookLine, base_rows_text}
-use Rattle.jet_worker.specs.Stopping.{StopTold, IsNoBadLine}
+use Rattle.jet_worker.specs.Stopping.{IsNoBadLine, IsWriting, LastIs}
 use Rattle.jet_cli.specs.inner.Took.{Took, Prints, late_text_of}
 use Rattle.jet_cli.specs.Words.{WindowCommand}
 use Rattle.jet_cli.proofs.TookLemmas.{stays}
-use Rattle.std.proofs.lemmas.List.Elements.{All-nil}
+use Rattle.std.proofs.lemmas.List.Elements.{All-append, All-nil}
 use Rattle.jet_cli.specs.declared.counter.WindowCounter.{WindowCounter}
-use Rattle.jet_worker.specs.declared.stop.Spot.{Spot}
 use Rattle.jet_worker.specs.declared.stop.Stop.{Stop}
 use Rattle.jet_worker.specs.declared.stop.Stop.TheVariants.{BadLine, Outside, NoMemory}
-use Rattle.jet_cli.proofs.GoesLemmas.{goes_weaker, goes_same}
+use Rattle.jet_file.proofs.GoesLemmas.{goes_weaker, goes_same}
 
 -- an event of a line was counted, and the texts of that written
 pub wrote_event : (c : WindowCommand) (events : List EventValue) (e : EventValue) (table : List RowValue) (n : ℕ) (line : List ℕ) (now next : Option Told) (old mid new : WindowCounter)
@@ -50,18 +51,27 @@ wrote_event c events e table n line now next old mid new read took prints no_row
 wrote_event c events e table n line now next old mid new read took prints no_rows no_notes s1 n1 m w s2 n2 (Err stop) told rows notes = tt
 
 -- the writing stopped
+appending_stops : (rows notes : List ℕ) (stop : Stop) (a b : Told) → StopsAppending rows notes stop a b → StepStops IsWriting stop a b
+appending_stops rows notes stop a b h = record {
+  calls = map (Wrote Notes) h.note_lengths ++ map (Wrote Rows) h.row_lengths;
+  quiet = All-append IsNoOpening (map (Wrote Notes) h.note_lengths) (map (Wrote Rows) h.row_lengths) (none_writes Notes h.note_lengths) (none_writes Rows h.row_lengths);
+  last = h.last;
+  fails = h.fails;
+  trace = h.trace ∙ ap (λ (l : List CallMade). l ++ h.last) (append_assoc a.trace (map (Wrote Notes) h.note_lengths) (map (Wrote Rows) h.row_lengths));
+}
+
 pub write_stops : (rows notes : List ℕ) (n : ℕ) (line : List ℕ) (now next : Option Told) (r : Result (Unit {0}) Stop) → WhereTold (Flushes rows notes r) now next
     → IfErr r IsNoBadLine → IfErr r (LineStop n line now next)
 write_stops rows notes n line now next (Ok done) told never = tt
 write_stops rows notes n line now next (Err (BadLine p l why)) told never = absurd never
 write_stops rows notes n line now next (Err (Outside call spot)) told never =
-    (λ name_of. goes_weaker (Flushes {T = Unit {0}} rows notes (Err (Outside call spot))) (StopTold name_of (Outside call spot)) (λ a b h. h.told name_of) now next told, tt)
-write_stops rows notes n line now next (Err NoMemory) told never =
-    (λ name_of. goes_weaker (Flushes {T = Unit {0}} rows notes (Err NoMemory)) (StopTold name_of NoMemory) (λ a b h. h.told name_of) now next told, tt)
+    (goes_weaker (StopsAppending rows notes (Outside call spot)) (StepStops IsWriting (Outside call spot)) (appending_stops rows notes (Outside call spot)) now next told, tt)
+write_stops rows notes n line now next (Err NoMemory) told never = (goes_weaker (StopsAppending rows notes NoMemory) (StepStops IsWriting NoMemory) (appending_stops rows notes NoMemory) now next told, tt)
 
 -- a stop that touched no outside
-pub stands : (n : ℕ) (line : List ℕ) (now : Option Told) (stop : Stop) → ((name_of : Spot → Option (List ℕ)) (a : Told) → StopTold name_of stop a a) → IsBadLineAt n line stop → LineStop n line now now stop
-stands n line now stop same bad = (λ name_of. goes_same (StopTold name_of stop) (same name_of) now, bad)
+pub stands : (n : ℕ) (line : List ℕ) (now : Option Told) (stop : Stop) → LastIs IsWriting stop [] → IsBadLineAt n line stop → LineStop n line now now stop
+stands n line now stop none bad =
+    (goes_same (StepStops IsWriting stop) (λ a. record { calls = []; quiet = All-nil IsNoOpening; last = []; fails = none; trace = sym (append-nil (a.trace ++ []) ∙ append-nil a.trace) }) now, bad)
 
 same_none : (a : List RowValue) → a ≡ a ++ []
 same_none a = sym (append-nil a)
@@ -107,7 +117,6 @@ wrote_end c events table now next old mid f no_rows no_notes (Ok done) told =
 wrote_end c events table now next old mid f no_rows no_notes (Err stop) told = tt
 
 pub end_stops : (rows notes : List ℕ) (now next : Option Told) (r : Result (Unit {0}) Stop) → WhereTold (Flushes rows notes r) now next → IfErr r IsNoBadLine
-    → IfErr r (λ stop. (name_of : Spot → Option (List ℕ)) → IsNoBadLine stop × WhereTold (StopTold name_of stop) now next)
+    → IfErr r (λ stop. IsNoBadLine stop × WhereTold (StepStops IsWriting stop) now next)
 end_stops rows notes now next (Ok done) told never = tt
-end_stops rows notes now next (Err stop) told never =
-    λ name_of. (never, goes_weaker (Flushes {T = Unit {0}} rows notes (Err stop)) (StopTold name_of stop) (λ a b h. h.told name_of) now next told)
+end_stops rows notes now next (Err stop) told never = (never, goes_weaker (StopsAppending rows notes stop) (StepStops IsWriting stop) (appending_stops rows notes stop) now next told)

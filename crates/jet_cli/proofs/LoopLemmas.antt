@@ -1,7 +1,8 @@
 -- The steps of the loop over a file's lines.
 use Rattle.jet_cli.proofs.PaceLemmas.{goes_paced_appends}
 use Rattle.jet_cli.specs.Pacing.{HasPaced}
-use Rattle.std.proofs.Common.{◌≡◌, ℕ, ◌+◌, ◌-◌, ◌*◌, ◌<◌, ◌≤◌, List, [], ◌++◌, length, Bool, true, false, cond, Option, Some, None, Result, Ok, Err, refl, ap, sym, ◌∙◌, subst, arith, append-nil, length-append, All, inl, inr, OnOk, pos, ℤ}
+use Rattle.std.proofs.Common.{◌≡◌, ℕ, ◌+◌, ◌<◌, ◌≤◌, List, [], ◌++◌, length, Bool, true, false, Option, Some, None, Result, Ok, Err, refl, ap, sym, ◌∙◌, subst, append-nil, All, OnOk, pos, ℤ, map}
+use Rattle.std.proofs.lemmas.List.Elements.{All-nil}
 use Rattle.std.specs.Prelude.{IfErr, MatchResult, codes}
 use Rattle.std.proofs.lemmas.Grind.{flat_map-append}
 use Rattle.jet_items.specs.Values.{EventValue, RowValue}
@@ -10,23 +11,23 @@ use Rattle.jet_lines.specs.Feeds.{NoFeed}
 use Rattle.jet_lines.specs.Files.{events_in, most_lines}
 use Rattle.jet_lines.specs.Lines.{lines_of}
 use Rattle.jet_lines.specs.LinesValue.{LinesValue}
-use Rattle.jet_lines.proofs.CutLemmas.{strip_len}
 use Rattle.jet_lines.specs.declared.cut.Cut.TheVariants as cut
 use Rattle.jet_lines.specs.declared.fault.LineFault.{LineFault}
 use Rattle.jet_file.specs.Text.{row_line}
-use Rattle.jet_file.specs.Outside.{Told, WhereTold, OpensFile, AddsNumber, LacksFile}
-use Rattle.jet_cli.proofs.GoesLemmas.{goes_same, goes_then, goes_weaker}
+use Rattle.jet_file.specs.Outside.{Told, WhereTold, Read, OpensFile, AddsNumber, LacksFile}
+use Rattle.jet_file.proofs.GoesLemmas.{goes_same, goes_then, goes_weaker}
 use Rattle.jet_cli.specs.Counting.{Counts, late_among, mark_after}
 use Rattle.jet_cli.specs.Done.{IsDone}
 use Rattle.jet_cli.specs.inner.Ending.{Ends}
-use Rattle.jet_worker.specs.Feeding.{PutsPiece, StopsAt, TakesPiece}
-use Rattle.jet_cli.specs.LineStops.{LineStop, IsBadIn, IsBadLineAt, RunStops, StopsFrom}
+use Rattle.jet_worker.specs.Calls.{Calling, IsNoOpening}
+use Rattle.jet_worker.specs.Feeding.{PutsPiece, StopsReads, TakesPiece}
+use Rattle.jet_worker.proofs.CallLemmas.{last_weaker, none_reads, write_in}
+use Rattle.jet_cli.specs.LineStops.{LineStop, IsBadIn, IsBadLineAt, RunStops, StepStops}
 use Rattle.jet_cli.specs.inner.Progress.{HasRun, Progress, TookLine, base_rows_text, base_late_text}
-use Rattle.jet_worker.specs.Stopping.{StopTold, IsForOutside, IsNoBadLine, CauseOfStop, Outcome, OpenOutcome}
+use Rattle.jet_worker.specs.Stopping.{IsCallIn, IsWriting, IsForOutside, IsNoBadLine, CauseOfStop, Outcome, OpenOutcome}
 use Rattle.jet_cli.specs.inner.Took.{Prints}
 use Rattle.jet_cli.specs.Words.{WindowCommand}
 use Rattle.jet_cli.specs.declared.counter.WindowCounter.{WindowCounter}
-use Rattle.jet_worker.specs.declared.stop.Spot.{Spot}
 use Rattle.jet_worker.specs.declared.stop.Spot.TheVariants.{Part}
 use Rattle.jet_worker.specs.declared.stop.Stop.{Stop}
 use Rattle.jet_worker.specs.declared.stop.Stop.TheVariants.{BadLine, Outside, NoMemory}
@@ -58,54 +59,29 @@ took_piece c file start now next lines lines1 lines' w p more puts told =
     progress_more c file start now next lines1 lines' w (subst (λ (v : LinesValue). Progress c file start now v w) (sym same) p) live
     (subst (λ (v : LinesValue). NoFeed v.rest (length v.rest)) (sym same) more.1.0) puts told
 
--- the measure
-abbrev flag : Bool → ℕ
-flag b = cond b 0 1
-
-abbrev pub left : LinesValue → ℕ
-left v = (v.most - v.number) * 5002 + (5000 - length v.rest) + cond v.ended 0 1
-
-step_piece : (lines lines' : LinesValue) → lines.ended ≡ false → length lines.rest ≤ 513 → PutsPiece lines lines' → left lines' < left lines
-step_piece lines lines' live short (inl (piece, some, small, is)) =
-    let rest : length lines'.rest ≡ length lines.rest + length piece = ap (λ (v : LinesValue). length v.rest) is ∙ length-append lines.rest piece in
-    let most : lines'.most ≡ lines.most = ap (λ (v : LinesValue). v.most) is in
-    let number : lines'.number ≡ lines.number = ap (λ (v : LinesValue). v.number) is in
-    let ended : flag lines'.ended ≡ 1 = ap flag (ap (λ (v : LinesValue). v.ended) is ∙ live) in
-    let old : flag lines.ended ≡ 1 = ap flag live in
-    let whole : (lines'.most - lines'.number) * 5002 ≡ (lines.most - lines.number) * 5002 = ap (λ (v : LinesValue). (v.most - v.number) * 5002) is in
-    omega (arith, rest, whole, ended, old, short, some, small)
-step_piece lines lines' live short (inr is) =
-    let rest : length lines'.rest ≡ length lines.rest = ap (λ (v : LinesValue). length v.rest) is in
-    let ended : flag lines'.ended ≡ 0 = ap flag (ap (λ (v : LinesValue). v.ended) is) in
-    let old : flag lines.ended ≡ 1 = ap flag live in
-    let whole : (lines'.most - lines'.number) * 5002 ≡ (lines.most - lines.number) * 5002 = ap (λ (v : LinesValue). (v.most - v.number) * 5002) is in
-    omega (arith, rest, whole, ended, old)
-
-pub less_left : (lines lines1 lines' : LinesValue) → NextIs lines cut.More lines1 → PutsPiece lines1 lines' → left lines' < left lines
-less_left lines lines1 lines' more puts =
-    let same : lines1 ≡ lines = more.3 in
-    let short : length lines.rest ≤ 513 = omega (arith, (strip_len lines.rest).1, more.1.1) in
-    subst (λ (v : LinesValue). left lines' < left v) same
-    (step_piece lines1 lines' (ap (λ (v : LinesValue). v.ended) same ∙ more.0) (subst (λ (v : LinesValue). length v.rest ≤ 513) (sym same) short) puts)
-
 -- the run stops at a line that the cutter refused
 pub stops_at_cut : (c : WindowCommand) (file : ℕ) (old start now : Option Told) (lines lines' : LinesValue) (w : WindowCounter) (n : ℕ) (why : LineFault)
-    → Progress c file start now lines w → NextIs lines (cut.Bad n why) lines' → WhereTold (OpensFile c.file file) old start → WhereTold (RunStops c (BadLine 0 n why)) old now
+    → Progress c file start now lines w → NextIs lines (cut.Bad n why) lines' → WhereTold (OpensFile c.file file) old start → WhereTold (Calling (RunStops c (BadLine 0 n why))) old now
 stops_at_cut c file old start now lines lines' w n why p bad opens =
     goes_run_stops c file p.bytes lines.ended (base_rows_text c p.table) (base_late_text (late_among c (events_in most_lines 0 p.given))) (BadLine 0 n why) old start now now
-    (bad_cut c file start now lines w p n 0 why lines' refl bad) opens p.told (goes_same (StopsFrom file (BadLine 0 n why)) (λ a name_of is. tt) now)
+    (bad_cut c file start now lines w p n 0 why lines' refl bad) opens p.told (goes_same (StepStops (IsCallIn (Part 0) file) (BadLine 0 n why)) (λ a. record { calls = []; quiet = All-nil IsNoOpening; last = []; fails = refl; trace = sym (append-nil (a.trace ++ []) ∙ append-nil a.trace) }) now)
+
+-- a step that writes is one of any file
+of_writing : (file : ℕ) (stop : Stop) (now next : Option Told) → WhereTold (StepStops IsWriting stop) now next → WhereTold (StepStops (IsCallIn (Part 0) file) stop) now next
+of_writing file stop = goes_weaker (StepStops IsWriting stop) (StepStops (IsCallIn (Part 0) file) stop) (λ a b h. record {
+  calls = h.calls;
+  quiet = h.quiet;
+  last = h.last;
+  fails = last_weaker IsWriting (IsCallIn (Part 0) file) stop h.last (write_in (Part 0) file) h.fails;
+  trace = h.trace;
+})
 
 -- the run stops in reading or counting a line
 pub stops_at_line : (c : WindowCommand) (file : ℕ) (old start now next : Option Told) (lines lines' : LinesValue) (w : WindowCounter) (n : ℕ) (line : List ℕ) (stop : Stop)
-    → Progress c file start now lines w → NextIs lines (cut.Line n) lines' → line ≡ lines'.line → LineStop n line now next stop → WhereTold (OpensFile c.file file) old start → WhereTold (RunStops c stop) old next
+    → Progress c file start now lines w → NextIs lines (cut.Line n) lines' → line ≡ lines'.line → LineStop n line now next stop → WhereTold (OpensFile c.file file) old start → WhereTold (Calling (RunStops c stop)) old next
 stops_at_line c file old start now next lines lines' w n line stop p next_is same h opens =
     goes_run_stops c file p.bytes lines.ended (base_rows_text c p.table) (base_late_text (late_among c (events_in most_lines 0 p.given))) stop old start now next
-    (bad_read c file start now lines w p n lines' stop next_is (subst (λ (l : List ℕ). IsBadLineAt n l stop) same h.1)) opens p.told (all_names file stop now next h.0)
-  where
-    all_names : (file : ℕ) (stop : Stop) (now next : Option Told) → ((name_of : Spot → Option (List ℕ)) → WhereTold (StopTold name_of stop) now next) → WhereTold (StopsFrom file stop) now next
-    all_names file stop None next h = tt
-    all_names file stop (Some a) None h = h (λ k. None)
-    all_names file stop (Some a) (Some b) h = λ name_of is. h name_of
+    (bad_read c file start now lines w p n lines' stop next_is (subst (λ (l : List ℕ). IsBadLineAt n l stop) same h.1)) opens p.told (of_writing file stop now next h.0)
 
 none_bad : (stop : Stop) → IsNoBadLine stop → (content : List ℕ) → IsBadIn content stop
 none_bad (BadLine part line why) h content = absurd h
@@ -113,27 +89,27 @@ none_bad (Outside call spot) h content = tt
 none_bad NoMemory h content = tt
 
 -- a read of the file stopped
-pub stops_read : (file : ℕ) (stop : Stop) (now next : Option Told) → WhereTold (λ a b. StopsAt (Part 0) (a.place file).name stop a b) now next → WhereTold (StopsFrom file stop) now next
-stops_read file stop = goes_weaker (λ a b. StopsAt (Part 0) (a.place file).name stop a b) (StopsFrom file stop) (λ a b h name_of is. h.told name_of is)
+pub stops_read : (file : ℕ) (stop : Stop) (now next : Option Told) → WhereTold (StopsReads (Part 0) file stop) now next → WhereTold (StepStops (IsCallIn (Part 0) file) stop) now next
+stops_read file stop = goes_weaker (StopsReads (Part 0) file stop) (StepStops (IsCallIn (Part 0) file) stop) (λ a b h. record {
+  calls = map (Read file) h.counts;
+  quiet = none_reads file h.counts;
+  last = h.last;
+  fails = h.fails;
+  trace = h.trace;
+})
 
 -- the run stops for another cause
 pub stops_else : (c : WindowCommand) (file : ℕ) (old start now next : Option Told) (lines : LinesValue) (w : WindowCounter) (stop : Stop)
-    → Progress c file start now lines w → IsNoBadLine stop → WhereTold (StopsFrom file stop) now next → WhereTold (OpensFile c.file file) old start → WhereTold (RunStops c stop) old next
+    → Progress c file start now lines w → IsNoBadLine stop → WhereTold (StepStops (IsCallIn (Part 0) file) stop) now next → WhereTold (OpensFile c.file file) old start → WhereTold (Calling (RunStops c stop)) old next
 stops_else c file old start now next lines w stop p never told opens =
     goes_run_stops c file p.bytes lines.ended (base_rows_text c p.table) (base_late_text (late_among c (events_in most_lines 0 p.given))) stop old start now next
     (λ content more is may. none_bad stop never content) opens p.told told
 
 pub stops_at_end : (c : WindowCommand) (file : ℕ) (old start now next : Option Told) (lines : LinesValue) (w : WindowCounter) (r : Result (Unit {0}) Stop)
     → Progress c file start now lines w → WhereTold (OpensFile c.file file) old start
-    → IfErr r (λ stop. (name_of : Spot → Option (List ℕ)) → IsNoBadLine stop × WhereTold (StopTold name_of stop) now next) → IfErr r (λ stop. WhereTold (RunStops c stop) old next)
+    → IfErr r (λ stop. IsNoBadLine stop × WhereTold (StepStops IsWriting stop) now next) → IfErr r (λ stop. WhereTold (Calling (RunStops c stop)) old next)
 stops_at_end c file old start now next lines w (Ok d) p opens h = tt
-stops_at_end c file old start now next lines w (Err stop) p opens h =
-    stops_else c file old start now next lines w stop p (h (λ k. None)).0 (all_names file stop now next (λ name_of. (h name_of).1)) opens
-  where
-    all_names : (file : ℕ) (stop : Stop) (now next : Option Told) → ((name_of : Spot → Option (List ℕ)) → WhereTold (StopTold name_of stop) now next) → WhereTold (StopsFrom file stop) now next
-    all_names file stop None next h = tt
-    all_names file stop (Some a) None h = h (λ k. None)
-    all_names file stop (Some a) (Some b) h = λ name_of is. h name_of
+stops_at_end c file old start now next lines w (Err stop) p opens h = stops_else c file old start now next lines w stop p h.0 (of_writing file stop now next h.1) opens
 
 -- two steps that both go
 goes_both : (step more : Told → Told → Type 0) (now next : Option Told) → WhereTold step now next → WhereTold more now next → WhereTold (λ a b. step a b × more a b) now next

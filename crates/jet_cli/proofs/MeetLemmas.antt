@@ -4,12 +4,13 @@ use Rattle.std.specs.Prelude.{IfErr, ⊤}
 use Rattle.jet_lines.specs.declared.fault.LineFault.{LineFault}
 use Rattle.jet_file.specs.Headline.{WritesNothing}
 use Rattle.jet_file.specs.Outside.{Told, WhereTold}
-use Rattle.jet_worker.specs.Stopping.{EndsFailed}
+use Rattle.jet_worker.specs.Calls.{Calling, EndsFailed}
 use Rattle.jet_worker.specs.declared.stop.Call.{Call}
 use Rattle.jet_worker.specs.declared.stop.Spot.{Spot}
 use Rattle.jet_worker.specs.declared.stop.Stop.TheVariants.{BadLine, Outside, NoMemory}
 use Rattle.jet_cli.specs.Answers.{HasFiles, HasGoodFiles, HasNoJobFile, IsJobUnread}
-use Rattle.jet_cli.specs.Commands.{Finishes, HasBadLine, StaysQuiet, StaysQuietInTime, names_of}
+use Rattle.jet_cli.specs.CallOrder.{IsInOrder, place_in}
+use Rattle.jet_cli.specs.Commands.{Finishes, HasBadLine, HasBegun, StaysQuiet, StaysQuietInTime}
 use Rattle.jet_cli.specs.inner.Ended.{status_of}
 use Rattle.jet_cli.specs.inner.Halting.{HaltOutcome, IsOutsideHalt}
 use Rattle.jet_cli.specs.inner.Meeting.{Meets}
@@ -20,12 +21,23 @@ use Rattle.jet_cli.specs.declared.halt.Halt.TheVariants.{Refused, Stopped}
 use Rattle.jet_cli.specs.declared.status.Refusal.{Refusal}
 use Rattle.jet_cli.specs.declared.status.Status.TheVariants as status
 
+-- the last call of all failed, and it is the one that is named
+abbrev pub Fails : JetCommand → Call → Spot → Told → Told → Type 0
+Fails c call spot = Calling (λ calls a b. EndsFailed (place_in c) call spot calls)
+
+-- what is written where a call failed or memory ran out
+abbrev pub Begun : JetCommand → Option Told → Option Told → Halt → Type 0
+Begun c old now (Refused why) = ⊤
+Begun c old now (Stopped (BadLine part line why)) = ⊤
+Begun c old now (Stopped (Outside call spot)) = WhereTold (HasBegun c) old now
+Begun c old now (Stopped NoMemory) = WhereTold (HasBegun c) old now
+
 -- what an early end says; where no job file is read and the job is refused, the outside is the same
 abbrev pub Halted : JetCommand → Option Told → Option Told → Type 0 → Halt → Type 0
 Halted c old now same (Refused why) = MayBeRefused why c old × WhereTold WritesNothing old now × (HasNoJobFile (Some c) → same)
 Halted c old now same (Stopped (BadLine part line why)) = HasBadLine c part line why old now × ((cause : Refusal) → RefusalIs (Some cause) c old → ⊥) × (HasGoodFiles c old → ⊥)
 Halted c old now same (Stopped (Outside call spot)) =
-    WhereTold (λ a. EndsFailed (names_of c a.content) call spot a) old now × ((cause : Refusal) → RefusalIs (Some cause) c old → IsJobUnread c (status.OutsideFault call spot))
+    WhereTold (Fails c call spot) old now × ((cause : Refusal) → RefusalIs (Some cause) c old → IsJobUnread c (status.OutsideFault call spot))
 Halted c old now same (Stopped NoMemory) = ⊤
 
 -- how a command ended
@@ -35,6 +47,8 @@ pub record Facts {S : Type 0} (told : S → Option Told) (opened : S → ℕ →
   pub in_time : OnOk r (WhereTold (StaysQuietInTime c) (told old) (told now))
   pub valid : OnOk r ((why : Refusal) → RefusalIs (Some why) c (told old) → ⊥)
   pub halted : IfErr r (Halted c (told old) (told now) (now ≡ old))
+  pub calls : WhereTold (Calling (IsInOrder c)) (told old) (told now)
+  pub begun : IfErr r (Begun c (told old) (told now))
   pub outcome : HaltOutcome steady faults old now r
   pub works : steady old ≡ true → IfErr r (λ halt. IsOutsideHalt halt → HasFiles c (told old) → ⊥)
 
@@ -65,6 +79,8 @@ not_less before now h lt = omega (arith, h, lt)
 module _ {S : Type 0} (told : S → Option Told) (opened : S → ℕ → Bool) (steady : S → Bool) (faults : S → ℕ) (c : JetCommand) (old now : S) where
   meets_done : (d : Unit {0}) → Facts told opened steady faults c old now (Ok d) → Meets told opened steady faults c old now status.Done
   meets_done d f = record {
+    calls = f.calls;
+    begun = λ is. absurd is;
     done = λ is. f.done;
     quiet = λ is. f.quiet;
     in_time = λ is. f.in_time;
@@ -88,6 +104,8 @@ module _ {S : Type 0} (told : S → Option Told) (opened : S → ℕ → Bool) (
 
   meets_refused : (why : Refusal) → Facts told opened steady faults c old now (Err (Refused why)) → Meets told opened steady faults c old now (status.JobRefused why)
   meets_refused why f = record {
+    calls = f.calls;
+    begun = λ is. absurd is;
     done = λ is. absurd (cc is);
     quiet = λ is. absurd (cc is);
     in_time = λ is. absurd (cc is);
@@ -111,6 +129,8 @@ module _ {S : Type 0} (told : S → Option Told) (opened : S → ℕ → Bool) (
 
   meets_bad : (p l : ℕ) (w : LineFault) → Facts told opened steady faults c old now (Err (Stopped (BadLine p l w))) → Meets told opened steady faults c old now (status.BadLine p l w)
   meets_bad p l w f = record {
+    calls = f.calls;
+    begun = λ is. absurd is;
     done = λ is. absurd (cc is);
     quiet = λ is. absurd (cc is);
     in_time = λ is. absurd (cc is);
@@ -138,6 +158,8 @@ module _ {S : Type 0} (told : S → Option Told) (opened : S → ℕ → Bool) (
 
   meets_fault : (k : Call) (s : Spot) → Facts told opened steady faults c old now (Err (Stopped (Outside k s))) → Meets told opened steady faults c old now (status.OutsideFault k s)
   meets_fault k s f = record {
+    calls = f.calls;
+    begun = λ is. f.begun;
     done = λ is. absurd (cc is);
     quiet = λ is. absurd (cc is);
     in_time = λ is. absurd (cc is);
@@ -153,14 +175,16 @@ module _ {S : Type 0} (told : S → Option Told) (opened : S → ℕ → Bool) (
     every_fault = λ lt. tt;
     fault_call = λ call spot is.
         let same = same_call k call s spot is in
-        subst (λ (x : Call). WhereTold (λ a. EndsFailed (names_of c a.content) x spot a) (told old) (told now)) same.0
-        (subst (λ (x : Spot). WhereTold (λ a. EndsFailed (names_of c a.content) k x a) (told old) (told now)) same.1 f.halted.0);
+        subst (λ (x : Call). WhereTold (Fails c x spot) (told old) (told now)) same.0
+        (subst (λ (x : Spot). WhereTold (Fails c k x) (told old) (told now)) same.1 f.halted.0);
     works = λ st files is. f.works st tt files;
     complete = λ none good never. absurd (never f.outcome.cause);
   }
 
   meets_memory : Facts told opened steady faults c old now (Err (Stopped NoMemory)) → Meets told opened steady faults c old now status.NoMemory
   meets_memory f = record {
+    calls = f.calls;
+    begun = λ is. f.begun;
     done = λ is. absurd (cc is);
     quiet = λ is. absurd (cc is);
     in_time = λ is. absurd (cc is);

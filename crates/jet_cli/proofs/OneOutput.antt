@@ -1,9 +1,8 @@
 -- That what Done says fixes what was written.
-use Rattle.std.proofs.Common.{◌≡◌, ℕ, Bool, true, false, cond, not, ◌&&◌, ℤ, List, [], ◌∷◌, ◌++◌, map, filter, Some, refl, ap, sym, ◌∙◌, subst, arith, rules, append-nil, All}
-use Rattle.std.specs.Prelude.{int_le, ◌==◌, slice_index_or}
+use Rattle.std.proofs.Common.{◌≡◌, ℕ, Bool, true, false, cond, not, List, [], ◌∷◌, ◌++◌, map, filter, Some, refl, ap, sym, ◌∙◌, subst, arith, append-nil, All}
+use Rattle.std.specs.Prelude.{◌==◌, slice_index_or}
 use Rattle.std.specs.List.{AllZip}
 use Rattle.std.specs.List.Sorted.{IsPermutation}
-use Rattle.std.proofs.lemmas.Int.{ints}
 use Rattle.std.proofs.lemmas.List.Elements.{All-head, All-tail, All-filter, All-map, filter-append}
 use Rattle.std.proofs.lemmas.List.Sorted.{IsPermutation-map, IsPermutation-trans, IsPermutation-sym}
 use Rattle.jet_items.proofs.Bags.{SameBag-from_permutation, SameBag-filter, SameBag-sym, SameBag-to_permutation}
@@ -12,6 +11,7 @@ use Rattle.jet_items.specs.Rows.{Inflow, AreRows}
 use Rattle.jet_items.specs.Values.{EventValue, LateValue, RowValue}
 use Rattle.jet_file.specs.Headline.{Counted, late_at}
 use Rattle.jet_file.specs.Text.{rows_text}
+use Rattle.jet_laws.proofs.Apart.{event_same, event_same-refl, event_same-sound}
 use Rattle.jet_laws.proofs.OneTable.{rows_are_one, rows_stay_by_order}
 use Rattle.jet_cli.specs.Base.{base_window, base_events, base_inflow, base_behind}
 use Rattle.jet_cli.specs.Counting.{kept_among, late_among, as_late}
@@ -19,75 +19,6 @@ use Rattle.jet_cli.specs.Laws.{OutputIsOne}
 use Rattle.jet_cli.specs.Words.{WindowCommand}
 use Rattle.jet_cli.proofs.DoneLemmas.{one_of}
 use Rattle.jet_cli.proofs.PaceLemmas.{filter_nothing}
-
--- ---- events can be told apart
-both : (a b : Bool) → (a && b) ≡ true → (a ≡ true) × (b ≡ true)
-both true b h = (refl, h)
-both false b h = absurd (cc h)
-
-and_true : (a b : Bool) → a ≡ true → b ≡ true → (a && b) ≡ true
-and_true a b h k = ap (λ (x : Bool). x && b) h ∙ k
-
-abbrev all_same : {X : Type 0} → (X → X → Bool) → List X → List X → Bool
-all_same eq [] [] = true
-all_same eq [] (y ∷ ys) = false
-all_same eq (x ∷ xs) [] = false
-all_same eq (x ∷ xs) (y ∷ ys) = eq x y && all_same eq xs ys
-
-all_same-sound : {X : Type 0} (eq : X → X → Bool) → ((a b : X) → eq a b ≡ true → a ≡ b) → (xs ys : List X) → all_same eq xs ys ≡ true → xs ≡ ys
-all_same-sound eq sound [] [] h = refl
-all_same-sound eq sound [] (y ∷ ys) h = absurd (cc h)
-all_same-sound eq sound (x ∷ xs) [] h = absurd (cc h)
-all_same-sound {X} eq sound (x ∷ xs) (y ∷ ys) h =
-    let parts = both (eq x y) (all_same eq xs ys) h in
-    ap (λ (z : X). z ∷ xs) (sound x y parts.0) ∙ ap (λ (zs : List X). y ∷ zs) (all_same-sound eq sound xs ys parts.1)
-
-all_same-refl : {X : Type 0} (eq : X → X → Bool) → ((a : X) → eq a a ≡ true) → (xs : List X) → all_same eq xs xs ≡ true
-all_same-refl eq same [] = refl
-all_same-refl eq same (x ∷ xs) = and_true (eq x x) (all_same eq xs xs) (same x) (all_same-refl eq same xs)
-
-int_same : ℤ → ℤ → Bool
-int_same a b = int_le a b && int_le b a
-
-int_same-sound : (a b : ℤ) → int_same a b ≡ true → a ≡ b
-unfolding int_same
-int_same-sound a b h = let parts = both (int_le a b) (int_le b a) h in grind (arith, ints, rules, parts.0, parts.1)
-
-int_same-refl : (a : ℤ) → int_same a a ≡ true
-unfolding int_same
-int_same-refl a = and_true (int_le a a) (int_le a a) (grind (arith, ints, rules)) (grind (arith, ints, rules))
-
-nat_same : (a b : ℕ) → (a == b) ≡ true → a ≡ b
-nat_same a b h = grind (arith, h)
-
-nat_refl : (a : ℕ) → (a == a) ≡ true
-nat_refl a = grind arith
-
-event_same : EventValue → EventValue → Bool
-event_same a b = (a.part == b.part) && ((a.line == b.line) && (int_same a.ts b.ts && (all_same ◌==◌ a.key b.key && all_same int_same a.v b.v)))
-
-event_is : (a b : EventValue) → a.part ≡ b.part → a.line ≡ b.line → a.ts ≡ b.ts → a.key ≡ b.key → a.v ≡ b.v → a ≡ b
-event_is a b part line ts key v =
-    ap (λ (x : ℕ). let e : EventValue = record { part = x; line = a.line; ts = a.ts; key = a.key; v = a.v } in e) part
-    ∙ ap (λ (x : ℕ). let e : EventValue = record { part = b.part; line = x; ts = a.ts; key = a.key; v = a.v } in e) line
-    ∙ ap (λ (x : ℤ). let e : EventValue = record { part = b.part; line = b.line; ts = x; key = a.key; v = a.v } in e) ts
-    ∙ ap (λ (x : List ℕ). let e : EventValue = record { part = b.part; line = b.line; ts = b.ts; key = x; v = a.v } in e) key
-    ∙ ap (λ (x : List ℤ). let e : EventValue = record { part = b.part; line = b.line; ts = b.ts; key = b.key; v = x } in e) v
-
-event_same-sound : (a b : EventValue) → event_same a b ≡ true → a ≡ b
-unfolding event_same
-event_same-sound a b h =
-    let one = both (a.part == b.part) _ h in
-    let two = both (a.line == b.line) _ one.1 in
-    let three = both (int_same a.ts b.ts) _ two.1 in
-    let four = both (all_same ◌==◌ a.key b.key) _ three.1 in
-    event_is a b (nat_same a.part b.part one.0) (nat_same a.line b.line two.0) (int_same-sound a.ts b.ts three.0) (all_same-sound ◌==◌ nat_same a.key b.key four.0) (all_same-sound int_same int_same-sound a.v b.v four.1)
-
-event_same-refl : (a : EventValue) → event_same a a ≡ true
-unfolding event_same
-event_same-refl a =
-    and_true (a.part == a.part) _ (nat_refl a.part) (and_true (a.line == a.line) _ (nat_refl a.line) (and_true (int_same a.ts a.ts) _ (int_same-refl a.ts)
-    (and_true (all_same ◌==◌ a.key a.key) _ (all_same-refl ◌==◌ nat_refl a.key) (all_same-refl int_same int_same-refl a.v))))
 
 -- ---- events that were sorted out by a test
 all_pass : (p : EventValue → Bool) (xs : List EventValue) → All (λ e. p e ≡ true) xs → filter p xs ≡ xs

@@ -1,5 +1,5 @@
 -- Why a run over a file stops, said of the whole run.
-use Rattle.std.proofs.Common.{◌≡◌, ℕ, ◌+◌, ◌<◌, ◌≤◌, List, [], ◌∷◌, ◌++◌, length, append_assoc, Bool, Option, Some, None, Err, refl, ap, sym, ◌∙◌, subst, arith, inl, inr}
+use Rattle.std.proofs.Common.{◌≡◌, ℕ, ◌+◌, ◌<◌, ◌≤◌, List, [], ◌∷◌, ◌++◌, length, append_assoc, append-nil, Bool, Option, Some, None, Err, refl, ap, sym, ◌∙◌, subst, arith, inl, inr}
 use Rattle.std.specs.Prelude.{◌⊎◌, IsSomeAnd}
 use Rattle.jet_lines.specs.Cutting.{MayCome, NextIs}
 use Rattle.jet_lines.specs.Files.{first_bad_line, most_lines}
@@ -11,30 +11,28 @@ use Rattle.jet_lines.specs.declared.fault.LineFault.{LineFault}
 use Rattle.jet_lines.specs.declared.fault.LineFault.TheVariants as fault
 use Rattle.jet_lines.proofs.EntryLemmas.{long_event}
 use Rattle.jet_lines.proofs.FileLemmas.{bad_next, numbered_fits, numbered_over}
-use Rattle.jet_file.specs.Outside.{Told, Place, WhereTold, OpensFile, rest_of}
-use Rattle.jet_cli.proofs.ReadLemmas.{opened_rest}
-use Rattle.jet_cli.specs.Base.{base_name}
-use Rattle.jet_cli.specs.LineStops.{IsBadIn, IsBadLineAt, IsBadOf, RunStops, StopsFrom}
+use Rattle.jet_file.specs.Outside.{Told, WhereTold, Opened, Opening, OpensFile, Tried, rest_of}
+use Rattle.jet_file.proofs.ReadLemmas.{opened_rest}
+use Rattle.jet_cli.specs.LineStops.{IsBadIn, IsBadLineAt, IsBadOf, RunStops, StepStops}
 use Rattle.jet_cli.specs.inner.Progress.{HasRun, Progress}
-use Rattle.jet_worker.specs.Stopping.{StopTold}
+use Rattle.jet_worker.specs.Calls.{Calling, IsNoOpening, OpensInOrder, part_place}
+use Rattle.jet_worker.specs.Feeding.{FailsAt}
+use Rattle.jet_worker.specs.Stopping.{IsCallIn, IsNoBadLine, LastOf}
+use Rattle.jet_worker.specs.declared.stop.Call.{Call}
+use Rattle.jet_worker.specs.declared.stop.Call.TheVariants.{Open}
+use Rattle.jet_worker.specs.declared.stop.Spot.TheVariants.{Part}
+use Rattle.jet_worker.proofs.CallLemmas.{none_last}
+use Rattle.jet_worker.proofs.OrderLemmas.{none_in}
+use Rattle.jet_file.proofs.GoesLemmas.{goes_same, goes_weaker}
+use Rattle.jet_cli.proofs.OrderLemmas.{named_after, opening_named}
+use Rattle.std.proofs.lemmas.List.Elements.{All-append}
 use Rattle.jet_cli.specs.Words.{WindowCommand}
 use Rattle.jet_cli.specs.declared.counter.WindowCounter.{WindowCounter}
 use Rattle.jet_worker.specs.declared.stop.Spot.{Spot}
 use Rattle.jet_worker.specs.declared.stop.Stop.{Stop}
 use Rattle.jet_worker.specs.declared.stop.Stop.TheVariants.{BadLine, Outside, NoMemory}
 use Rattle.jet_cli.proofs.DoneLemmas.{some_of}
-use Rattle.jet_file.specs.Outside.{CallMade, Missed}
-
--- a stop after more calls is one
-pub stop_later : (name_of : Spot → Option (List ℕ)) (stop : Stop) (more : List CallMade) (a b c : Told) → b.trace ≡ a.trace ++ more → StopTold name_of stop b c → StopTold name_of stop a c
-stop_later name_of (BadLine part line why) more a b c is h = tt
-stop_later name_of (Outside call file) more a b c is h = record {
-  before = more ++ h.before;
-  tried = h.tried;
-  trace = h.trace ∙ ap (λ (t : List CallMade). t ++ h.before ++ Missed h.tried ∷ []) is ∙ ap (λ (t : List CallMade). t ++ Missed h.tried ∷ []) (append_assoc a.trace more h.before);
-  is = h.is;
-}
-stop_later name_of NoMemory more a b c is h = tt
+use Rattle.jet_file.specs.Outside.{CallMade}
 
 bad_of : (c : WindowCommand) (content : List ℕ) (told : Told) (stop : Stop) → told.content c.file ≡ Some content → IsBadIn content stop → IsBadOf c told stop
 bad_of c content told (BadLine part n why) is h =
@@ -44,19 +42,48 @@ bad_of c content told NoMemory is h = tt
 
 run_stops : (c : WindowCommand) (file : ℕ) (bytes : List ℕ) (ended : Bool) (rows notes : List ℕ) (stop : Stop) (old start now next : Told)
     → ((content more : List ℕ) → content ≡ bytes ++ more → MayCome ended more → IsBadIn content stop)
-    → OpensFile c.file file old start → HasRun file bytes ended rows notes start now → StopsFrom file stop now next → RunStops c stop old next
+    → OpensFile c.file file old start → HasRun file bytes ended rows notes start now → StepStops (IsCallIn (Part 0) file) stop now next → Calling (RunStops c stop) old next
 run_stops c file bytes ended rows notes stop old start now next bad opens run stops =
-    let name : (now.place file).name ≡ c.file = run.name ∙ ap (λ (p : Place). p.name) opens.place in
-    let one : StopTold (base_name c) stop now next = stops (base_name c) (ap Some (sym name)) in
-    let two : StopTold (base_name c) stop start next = stop_later (base_name c) stop run.calls start now next run.trace one in
-    let found = some_of (old.content c.file) opens.there in (
-      stop_later (base_name c) stop _ old start next opens.trace two,
-      bad_of c found.0 old stop found.1 (bad found.0 (rest_of now file) (sym (opened_rest c.file found.0 file old start found.1 opens) ∙ run.rest) run.end),
-    )
+    let such : Call → Spot → Tried → Type 0 = IsCallIn (Part 0) file in
+    let calls : List CallMade = run.calls ++ stops.calls in
+    let found = some_of (old.content c.file) opens.there in
+    record {
+      calls = Opened c.file file ∷ (calls ++ stops.last);
+      trace = stops.trace ∙ ap (λ (l : List CallMade). l ++ stops.calls ++ stops.last) (run.trace ∙ ap (λ (l : List CallMade). l ++ run.calls) opens.trace)
+          ∙ ap (λ (l : List CallMade). l ++ stops.last) (append_assoc (old.trace ++ Opened c.file file ∷ []) run.calls stops.calls)
+          ∙ append_assoc (old.trace ++ Opened c.file file ∷ []) calls stops.last ∙ append_assoc old.trace (Opened c.file file ∷ []) (calls ++ stops.last);
+      did = record {
+        opens = (refl, All-append IsNoOpening calls stops.last (All-append IsNoOpening run.calls stops.calls run.quiet stops.quiet) (none_last such stop stops.last (none_in (Part 0) file) stops.fails));
+        fails = named_after part_place (Part 0) c.file file calls stop stops.last refl stops.fails;
+        bad = bad_of c found.0 old stop found.1 (bad found.0 (rest_of now file) (sym (opened_rest c.file found.0 file old start found.1 opens) ∙ run.rest) run.end);
+      };
+    }
+
+-- no call was made
+pub goes_nowhere : (c : WindowCommand) (old : Option Told) → WhereTold (Calling (RunStops c NoMemory)) old old
+goes_nowhere c old = goes_same (Calling (RunStops c NoMemory)) (λ a. record { calls = []; trace = sym (append-nil a.trace); did = record { opens = tt; fails = tt; bad = tt } }) old
+
+-- the file could not be opened
+pub goes_unopened : (c : WindowCommand) (stop : Stop) (old now : Option Told) → IsNoBadLine stop → WhereTold (FailsAt Open (Part 0) (Opening c.file) stop) old now → WhereTold (Calling (RunStops c stop)) old now
+goes_unopened c stop old now never = goes_weaker (FailsAt Open (Part 0) (Opening c.file) stop) (Calling (RunStops c stop)) (λ a b s. record {
+  calls = s.last;
+  trace = ap (λ (t : Told). t.trace) s.same;
+  did = record { opens = opens stop s.last s.is; fails = opening_named part_place (Part 0) c.file stop s.last refl s.is; bad = none_bad a stop never };
+}) old now
+  where
+    opens : (stop : Stop) (last : List CallMade) → LastOf Open (Part 0) (Opening c.file) stop last → OpensInOrder (c.file ∷ []) last
+    opens (BadLine part line why) last h = absurd h
+    opens (Outside call spot) last h = subst (OpensInOrder (c.file ∷ [])) (sym h.2) (refl, refl)
+    opens NoMemory last h = subst (OpensInOrder (c.file ∷ [])) (sym h) tt
+
+    none_bad : (told : Told) (stop : Stop) → IsNoBadLine stop → IsBadOf c told stop
+    none_bad told (BadLine part line why) h = absurd h
+    none_bad told (Outside call spot) h = tt
+    none_bad told NoMemory h = tt
 
 pub goes_run_stops : (c : WindowCommand) (file : ℕ) (bytes : List ℕ) (ended : Bool) (rows notes : List ℕ) (stop : Stop) (old start now next : Option Told)
     → ((content more : List ℕ) → content ≡ bytes ++ more → MayCome ended more → IsBadIn content stop)
-    → WhereTold (OpensFile c.file file) old start → WhereTold (HasRun file bytes ended rows notes) start now → WhereTold (StopsFrom file stop) now next → WhereTold (RunStops c stop) old next
+    → WhereTold (OpensFile c.file file) old start → WhereTold (HasRun file bytes ended rows notes) start now → WhereTold (StepStops (IsCallIn (Part 0) file) stop) now next → WhereTold (Calling (RunStops c stop)) old next
 goes_run_stops c file bytes ended rows notes stop None start now next bad o r s = tt
 goes_run_stops c file bytes ended rows notes stop (Some old) None now next bad o r s = absurd o
 goes_run_stops c file bytes ended rows notes stop (Some old) (Some start) None next bad o r s = absurd r

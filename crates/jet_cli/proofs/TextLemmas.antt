@@ -1,15 +1,18 @@
 -- The reading of a text, read by read.
-use Rattle.std.proofs.Common.{◌≡◌, ℕ, ◌+◌, ◌-◌, ◌≤◌, min, List, ◌++◌, length, take, map, Bool, Option, Some, ap, sym, ◌∙◌, subst, arith, length-append, length-take-le}
+use Rattle.std.proofs.Common.{◌≡◌, ℕ, ◌+◌, ◌-◌, ◌≤◌, min, List, [], ◌++◌, length, take, map, Bool, Option, append-nil, refl, ap, sym, ◌∙◌, subst, arith, length-append, length-take-le}
 use Rattle.std.proofs.lemmas.List.{take-append-le, length-take}
-use Rattle.jet_file.specs.Outside.{Told, WhereTold, Read, ReadsFile}
+use Rattle.jet_file.specs.Outside.{CallMade, Told, WhereTold, Read, Reading, ReadsFile}
 use Rattle.jet_file.specs.Reading.{HasRead, HasReadAll}
-use Rattle.jet_worker.specs.Feeding.{StopsAt}
+use Rattle.jet_worker.specs.Feeding.{FailsAt}
+use Rattle.jet_worker.specs.Stopping.{IsCallIn, LastIs}
+use Rattle.jet_worker.specs.declared.stop.Call.TheVariants as call
 use Rattle.jet_worker.specs.declared.stop.Spot.{Spot}
 use Rattle.jet_worker.specs.declared.stop.Stop.{Stop}
+use Rattle.jet_worker.specs.declared.stop.Stop.TheVariants.{NoMemory}
+use Rattle.jet_worker.proofs.FeedLemmas.{read_last}
 use Rattle.jet_cli.specs.inner.TextReading.{ReadsFront, StopsReading}
-use Rattle.jet_cli.proofs.GoesLemmas.{goes_then, goes_weaker}
-use Rattle.jet_cli.proofs.ReadLemmas.{goes_end, goes_more}
-use Rattle.jet_cli.proofs.StopLemmas.{stop_later}
+use Rattle.jet_file.proofs.GoesLemmas.{goes_then, goes_weaker}
+use Rattle.jet_file.proofs.ReadLemmas.{goes_end, goes_more}
 
 -- so much of the text was read, and no call has failed
 pub record TextSoFar {S : Type 0} (told : S → Option Told) (opened : S → ℕ → Bool) (steady : S → Bool) (faults : S → ℕ) (file most : ℕ) (text : List ℕ) (start now : S) : Type 0 where
@@ -20,17 +23,38 @@ pub record TextSoFar {S : Type 0} (told : S → Option Told) (opened : S → ℕ
   pub faults_same : faults now ≡ faults start
 
 -- a read that failed after these stopped the reading
-stops_reading : (spot : Spot) (file : ℕ) (text : List ℕ) (stop : Stop) (a b d : Told) → HasRead file text a b → StopsAt spot (b.place file).name stop b d → StopsReading spot file stop a d
-stops_reading spot file text stop a b d r s = record {
-  told = λ name_of is. stop_later name_of stop (map (Read file) r.counts) a b d r.trace (s.told name_of (is ∙ ap Some (sym r.name)));
-  content = s.content ∙ r.content;
-  written = s.written ∙ r.written;
+stops_reading : (spot : Spot) (file most : ℕ) (text : List ℕ) (stop : Stop) (a b d : Told) → length text ≤ most → HasRead file text a b → FailsAt call.Read spot (Reading file) stop b d → StopsReading spot file most stop a d
+stops_reading spot file most text stop a b d short r s = record {
+  reads = record {
+    content = ap (λ (t : Told). t.content) s.same ∙ r.content;
+    written = ap (λ (t : Told). t.written) s.same ∙ r.written;
+    counts = r.counts;
+    last = s.last;
+    fails = read_last spot file stop s.last s.is;
+    trace = ap (λ (t : Told). t.trace) s.same ∙ ap (λ (l : List CallMade). l ++ s.last) r.trace;
+  };
+  few = subst (λ (n : ℕ). n ≤ most) (sym r.sum) short;
 }
 
-pub goes_stops_reading : (spot : Spot) (file : ℕ) (text : List ℕ) (stop : Stop) (old now next : Option Told) → WhereTold (HasRead file text) old now
-    → WhereTold (λ a b. StopsAt spot (a.place file).name stop a b) now next → WhereTold (StopsReading spot file stop) old next
-goes_stops_reading spot file text stop =
-    goes_then (HasRead file text) (λ a b. StopsAt spot (a.place file).name stop a b) (StopsReading spot file stop) (λ a b d r s. stops_reading spot file text stop a b d r s)
+pub goes_stops_reading : (spot : Spot) (file most : ℕ) (text : List ℕ) (stop : Stop) (old now next : Option Told) → length text ≤ most → WhereTold (HasRead file text) old now
+    → WhereTold (FailsAt call.Read spot (Reading file) stop) now next → WhereTold (StopsReading spot file most stop) old next
+goes_stops_reading spot file most text stop old now next short =
+    goes_then (HasRead file text) (FailsAt call.Read spot (Reading file) stop) (StopsReading spot file most stop) (λ a b d r s. stops_reading spot file most text stop a b d short r s) old now next
+
+-- no memory was found for what was read
+pub goes_lost : (spot : Spot) (file most : ℕ) (text : List ℕ) (stop : Stop) (old now : Option Told) → stop ≡ NoMemory → length text ≤ most → WhereTold (HasRead file text) old now → WhereTold (StopsReading spot file most stop) old now
+goes_lost spot file most text stop old now is short =
+    goes_weaker (HasRead file text) (StopsReading spot file most stop) (λ a b r. record {
+      reads = record {
+        content = r.content;
+        written = r.written;
+        counts = r.counts;
+        last = [];
+        fails = subst (λ (s : Stop). LastIs (IsCallIn spot file) s []) (sym is) refl;
+        trace = r.trace ∙ sym (append-nil (a.trace ++ map (Read file) r.counts));
+      };
+      few = subst (λ (n : ℕ). n ≤ most) (sym r.sum) short;
+    }) old now
 
 -- the last read found nothing
 pub goes_front : (file most : ℕ) (text buffer : List ℕ) (n : ℕ) (old now next : Option Told) → n ≡ 0 → length text ≤ most → WhereTold (HasRead file text) old now → WhereTold (ReadsFile file buffer n) now next

@@ -62,6 +62,12 @@ abbrev pub IsOutsideFault : Status → Type 0
 IsOutsideFault (OutsideFault call file) = ⊤
 IsOutsideFault status = ⊥
 
+-- a call failed, or memory ran out
+abbrev pub IsCutShort : Status → Type 0
+IsCutShort (OutsideFault call file) = ⊤
+IsCutShort NoMemory = ⊤
+IsCutShort status = ⊥
+
 abbrev pub IsUsageOrRefused : Status → Type 0
 IsUsageOrRefused Usage = ⊤
 IsUsageOrRefused (JobRefused why) = ⊤

@@ -1,11 +1,9 @@
 -- The job that `window` runs: one file, and one window over its events.
-use Rattle.std.specs.Prelude.{ℕ, ◌==◌, Bool, pos, List, [], ◌∷◌, Option, Some, None, codes, if◌then◌else◌}
+use Rattle.std.specs.Prelude.{ℕ, Bool, pos, List, [], ◌∷◌, codes}
 use Rattle.jet_items.specs.Marks.{is_behind}
 use Rattle.jet_items.specs.Rows.{Window, Inflow}
 use Rattle.jet_items.specs.Values.{EventValue}
 use Rattle.jet_lines.specs.Files.{events_of, most_lines}
-use Rattle.jet_worker.specs.declared.stop.Spot.{Spot}
-use Rattle.jet_worker.specs.declared.stop.Spot.TheVariants.{Part}
 use Rattle.jet_cli.specs.Words.{WindowCommand}
 
 -- the one window of `window`
@@ -23,8 +21,3 @@ base_inflow c content = record { window = base_window c; events = base_events co
 -- an event of the one file stood behind
 abbrev pub base_behind : WindowCommand → List ℕ → EventValue → Bool
 base_behind c content = is_behind (pos c.lag) (pos c.slide) (base_events content)
-
--- part 0 is the one file
-abbrev pub base_name : WindowCommand → Spot → Option (List ℕ)
-base_name c (Part part) = if part == 0 then Some c.file else None
-base_name c spot = None

@@ -1,20 +1,19 @@
 -- What the answers say to `check`.
-use Rattle.std.specs.Prelude.{◌≡◌, ◌⊎◌, ⊤, Any, ℕ, Bool, List, [], All, Option, Some, None, option_map, slice_get, Result, Ok, Err, IsSome}
+use Rattle.std.specs.Prelude.{◌≡◌, ◌⊎◌, ⊤, Any, ℕ, ◌+◌, Bool, List, ◌++◌, length, All, Option, Some, None, Ok, IsSome}
 use Rattle.jet_lines.specs.declared.fault.LineFault.{LineFault}
 use Rattle.jet_file.specs.Headline.{IsReadWhole}
-use Rattle.jet_file.specs.Outside.{Told}
-use Rattle.jet_flow.specs.DataFiles.{DataFile, data_files, file_name}
+use Rattle.jet_file.specs.Outside.{CallMade, Told}
+use Rattle.jet_flow.specs.DataFiles.{file_name}
 use Rattle.jet_job.specs.Jobs.{job_at}
-use Rattle.jet_job.specs.declared.fault.JobFault.{JobFault}
 use Rattle.jet_job.specs.declared.job_text.JobText.{JobText}
 use Rattle.jet_plan.specs.Plans.{IsValid}
+use Rattle.jet_worker.specs.Calls.{EndsFailed, ReadsInOrder}
 use Rattle.jet_worker.specs.CheckText.{Checks}
-use Rattle.jet_worker.specs.Checked.{IsBadLine, IsCheckOf, IsChecked, IsGood, numbered}
-use Rattle.jet_worker.specs.declared.stop.Spot.{Spot}
-use Rattle.jet_worker.specs.declared.stop.Spot.TheVariants.{Job, Part}
+use Rattle.jet_worker.specs.Checked.{IsBadLine, IsBegun, IsCheckOf, IsChecked, IsGood, names_of, numbered}
+use Rattle.jet_cli.specs.CallOrder.{ChecksJob, ReadsJob, check_place}
+use Rattle.jet_cli.specs.JobData.{files_of}
 use Rattle.jet_cli.specs.JobWords.{JobCommand}
 use Rattle.jet_cli.specs.Refusals.{text_refusal, with_options}
-use Rattle.jet_worker.specs.Stopping.{EndsFailed}
 use Rattle.jet_worker.specs.declared.stop.Stop.TheVariants.{BadLine, Outside, NoMemory}
 use Rattle.jet_cli.specs.declared.halt.Halt.{Halt}
 use Rattle.jet_cli.specs.declared.halt.Halt.TheVariants.{Refused, Stopped}
@@ -30,33 +29,31 @@ pub record HasChecks (c : JobCommand) (old : Told) : Type 0 where
   pub is : IsCheckOf job.dag (with_options c.options job.settings) checks
 
 -- what Done to `check` says, where the outside tells its content
-pub record IsCheckedJob (c : JobCommand) (before now : ℕ → Bool) (old new : Told) : Type 0 where
+pub record IsCheckedJob (c : JobCommand) (before now : ℕ → Bool) (calls : List CallMade) (old new : Told) : Type 0 where
   pub job : HasChecks c old
   -- the job file was opened by this call and read to its end
   pub read : IsReadWhole c.job job.content before now new
+  pub first : List CallMade
+  pub later : List CallMade
+  pub calls_are : calls ≡ first ++ later
+  pub reads : ReadsJob c.job first
   -- each data file was opened by this call and read to its end, none has a bad line, and the check's text was written
-  pub files : IsChecked job.checks before now old new
+  pub files : IsChecked job.checks before now later old new
 
--- the line is the first bad one of its file, the files before are good, and their lines of the check's text were written
-pub record IsBadLineOf (c : JobCommand) (part line : ℕ) (why : LineFault) (old new : Told) : Type 0 where
+-- the line is the first bad one of its file, whose turn was the last; the files before are good, and their lines of the
+-- check's text were written
+pub record IsBadLineOf (c : JobCommand) (part line : ℕ) (why : LineFault) (calls : List CallMade) (old new : Told) : Type 0 where
   pub job : HasChecks c old
+  pub first : List CallMade
+  pub later : List CallMade
+  pub calls_are : calls ≡ first ++ later
+  pub order : ReadsInOrder (names_of job.checks) later
+  pub turn : length order.turns ≡ part + 1
   pub bad : IsBadLine job.checks part line why old new
 
--- the data files of a job, none where there is no job
-abbrev pub files_in : Result JobText JobFault → List DataFile
-files_in (Ok job) = data_files job.dag
-files_in (Err why) = []
-
--- the data files of the job in a job file of this content
-abbrev pub files_of : Option (List ℕ) → List DataFile
-files_of None = []
-files_of (Some text) = files_in (job_at text)
-
--- the job file has the name that the words give, and the data files have those of the job
-abbrev pub check_name : JobCommand → (List ℕ → Option (List ℕ)) → Spot → Option (List ℕ)
-check_name c content Job = Some c.job
-check_name c content (Part part) = option_map file_name (slice_get (files_of (content c.job)) part)
-check_name c content spot = None
+-- nothing was written; or a front of the lines of the first files was, and these are good
+abbrev pub HasBegunCheck : JobCommand → Told → Told → Type 0
+HasBegunCheck c old new = (new.written ≡ old.written) ⊎ ((job : HasChecks c old) × IsBegun job.checks old new)
 
 -- the job file is there, and each data file of its job
 pub record HasDataFiles (c : JobCommand) (told : Told) : Type 0 where
@@ -68,11 +65,16 @@ abbrev pub AreGoodFiles : JobCommand → Told → Type 0
 AreGoodFiles c told = (job : HasChecks c told) → All (IsGood job.checks told) (numbered job.checks)
 
 -- why `check` ends early: its job is refused, and nothing was written; or a line is bad; or a call failed; or for want of memory
-abbrev pub CheckHalts : JobCommand → Halt → Told → Told → Type 0
-CheckHalts c (Refused why) old new = (text_refusal c.options (old.content c.job) ≡ Some why) × (new.written ≡ old.written)
-CheckHalts c (Stopped (BadLine part line why)) old new = IsBadLineOf c part line why old new
-CheckHalts c (Stopped (Outside call spot)) old new = EndsFailed (check_name c old.content) call spot old new
-CheckHalts c (Stopped NoMemory) old new = ⊤
+abbrev pub WhyHalted : JobCommand → Halt → List CallMade → Told → Told → Type 0
+WhyHalted c (Refused why) calls old new = (text_refusal c.options (old.content c.job) ≡ Some why) × (new.written ≡ old.written)
+WhyHalted c (Stopped (BadLine part line why)) calls old new = IsBadLineOf c part line why calls old new
+WhyHalted c (Stopped (Outside call spot)) calls old new = EndsFailed check_place call spot calls × HasBegunCheck c old new
+WhyHalted c (Stopped NoMemory) calls old new = HasBegunCheck c old new
+
+-- `check` ends early, and its calls were in order
+pub record CheckHalts (c : JobCommand) (halt : Halt) (calls : List CallMade) (old new : Told) : Type 0 where
+  pub order : ChecksJob c old.content calls
+  pub why : WhyHalted c halt calls old new
 
 -- the job file is not there, or a data file of its job, where that is told
 abbrev pub LacksFiles : JobCommand → Option Told → Type 0

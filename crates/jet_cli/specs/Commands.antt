@@ -1,22 +1,20 @@
 -- What the answers of the top call say to each command.
-use Rattle.std.specs.Prelude.{◌≡◌, ℕ, Bool, List, Option}
+use Rattle.std.specs.Prelude.{◌≡◌, ⊤, ℕ, Bool, Option}
 use Rattle.jet_lines.specs.declared.fault.LineFault.{LineFault}
 use Rattle.jet_file.specs.Outside.{Told, WhereTold}
 use Rattle.jet_file.specs.declared.outside.Out.TheVariants.{Notes}
-use Rattle.jet_worker.specs.declared.stop.Spot.{Spot}
-use Rattle.jet_cli.specs.Base.{base_name}
-use Rattle.jet_cli.specs.CheckedJob.{IsBadLineOf, IsCheckedJob, check_name}
+use Rattle.jet_worker.specs.Calls.{Calling}
+use Rattle.jet_cli.specs.CheckedJob.{HasBegunCheck, IsBadLineOf, IsCheckedJob}
 use Rattle.jet_cli.specs.Done.{IsDone, IsQuiet, IsQuietInTime}
-use Rattle.jet_cli.specs.JobFiles.{job_name}
 use Rattle.jet_cli.specs.LineStops.{IsFirstBadLine}
-use Rattle.jet_cli.specs.Planned.{IsPlanned}
+use Rattle.jet_cli.specs.Planned.{HasBegunPlan, IsPlanned}
 use Rattle.jet_cli.specs.Words.{JetCommand, WindowOf, PlanOf, CheckOf}
 
 -- what Done says, where the outside tells its content
 abbrev pub Finishes : JetCommand → (ℕ → Bool) → (ℕ → Bool) → Told → Told → Type 0
 Finishes (WindowOf c) before now old new = IsDone c before now old new
-Finishes (PlanOf c) before now old new = IsPlanned c before now old new
-Finishes (CheckOf c) before now old new = IsCheckedJob c before now old new
+Finishes (PlanOf c) before now old new = Calling (IsPlanned c before now) old new
+Finishes (CheckOf c) before now old new = Calling (IsCheckedJob c before now) old new
 
 -- no late line is written where no event is behind, and none ever but by `window`
 abbrev pub StaysQuiet : JetCommand → Told → Told → Type 0
@@ -34,10 +32,10 @@ StaysQuietInTime (CheckOf c) old new = new.written Notes ≡ old.written Notes
 abbrev pub HasBadLine : JetCommand → ℕ → ℕ → LineFault → Option Told → Option Told → Type 0
 HasBadLine (WindowOf c) part line why old new = WhereTold (λ a b. IsFirstBadLine c part line why a) old new
 HasBadLine (PlanOf c) part line why old new = ⊥
-HasBadLine (CheckOf c) part line why old new = WhereTold (IsBadLineOf c part line why) old new
+HasBadLine (CheckOf c) part line why old new = WhereTold (Calling (IsBadLineOf c part line why)) old new
 
--- the names of the files that a command reads, where files have these contents
-abbrev pub names_of : JetCommand → (List ℕ → Option (List ℕ)) → Spot → Option (List ℕ)
-names_of (WindowOf c) content = base_name c
-names_of (PlanOf c) content = job_name c
-names_of (CheckOf c) content = check_name c content
+-- what `plan` and `check` have written where a call failed or memory ran out: a front of their text
+abbrev pub HasBegun : JetCommand → Told → Told → Type 0
+HasBegun (WindowOf c) old new = ⊤
+HasBegun (PlanOf c) old new = HasBegunPlan c old new
+HasBegun (CheckOf c) old new = HasBegunCheck c old new

@@ -4,9 +4,11 @@ pub mod BaseJob
 pub mod Counting
 pub mod Digits
 pub mod Done
+pub mod CallOrder
 pub mod CheckedJob
 pub mod Commands
 pub mod Halts
+pub mod JobData
 pub mod JobFiles
 pub mod Planned
 pub mod Refusals

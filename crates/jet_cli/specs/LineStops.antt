@@ -1,18 +1,19 @@
 -- Why the reading and counting of one line stops.
-use Rattle.std.specs.Prelude.{◌≡◌, ℕ, ⊤, List, Option, Some, None, Err, IsSomeAnd}
+use Rattle.std.specs.Prelude.{◌≡◌, ℕ, ⊤, List, [], ◌∷◌, ◌++◌, All, Option, Some, None, Err, IsSomeAnd}
 use Rattle.jet_lines.specs.Readings.{event_line}
 use Rattle.jet_lines.specs.Files.{first_bad_line, most_lines}
 use Rattle.jet_lines.specs.declared.fault.LineFault.{LineFault}
-use Rattle.jet_file.specs.Outside.{Told, WhereTold}
-use Rattle.jet_cli.specs.Base.{base_name}
+use Rattle.jet_file.specs.Outside.{CallMade, Told, WhereTold, Tried}
 use Rattle.jet_cli.specs.BaseJob.{base_fault}
 use Rattle.jet_cli.specs.Refusals.{base_refusal}
 use Rattle.jet_cli.specs.Words.{WindowCommand}
 use Rattle.jet_cli.specs.declared.halt.Halt.{Halt}
 use Rattle.jet_cli.specs.declared.halt.Halt.TheVariants.{Refused, Stopped}
-use Rattle.jet_worker.specs.Stopping.{StopTold}
+use Rattle.jet_worker.specs.Calls.{Calling, IsNoOpening, OpensInOrder, part_place}
+use Rattle.jet_worker.specs.Stopping.{IsWriting, LastIs}
+use Rattle.jet_worker.specs.declared.stop.Call.{Call}
 use Rattle.jet_worker.specs.declared.stop.Spot.{Spot}
-use Rattle.jet_worker.specs.declared.stop.Spot.TheVariants.{Part}
+use Rattle.jet_cli.specs.CallOrder.{StopNamed}
 use Rattle.jet_worker.specs.declared.stop.Stop.{Stop}
 use Rattle.jet_worker.specs.declared.stop.Stop.TheVariants.{BadLine, Outside, NoMemory}
 
@@ -22,9 +23,17 @@ IsBadLineAt number line (BadLine part n why) = (part ≡ 0) × (n ≡ number) ×
 IsBadLineAt number line (Outside call spot) = ⊤
 IsBadLineAt number line NoMemory = ⊤
 
--- the line has a fault; or a call on the outside failed; or memory ran out
+-- a step that opens no file stopped, at such a call where one failed
+pub record StepStops (such : Call → Spot → Tried → Type 0) (stop : Stop) (old new : Told) : Type 0 where
+  pub calls : List CallMade
+  pub quiet : All IsNoOpening calls
+  pub last : List CallMade
+  pub fails : LastIs such stop last
+  pub trace : new.trace ≡ old.trace ++ calls ++ last
+
+-- the line has a fault; or a write failed; or memory ran out
 abbrev pub LineStop : ℕ → List ℕ → Option Told → Option Told → Stop → Type 0
-LineStop number line old new stop = ((name_of : Spot → Option (List ℕ)) → WhereTold (StopTold name_of stop) old new) × IsBadLineAt number line stop
+LineStop number line old new stop = WhereTold (StepStops IsWriting stop) old new × IsBadLineAt number line stop
 
 -- in this file the stop's line is the first bad one, where it is for a bad line
 abbrev pub IsBadIn : List ℕ → Stop → Type 0
@@ -42,13 +51,11 @@ IsBadOf c told (BadLine part n why) = IsFirstBadLine c part n why told
 IsBadOf c told (Outside call spot) = ⊤
 IsBadOf c told NoMemory = ⊤
 
--- why the run over the file of a command stops
-abbrev pub RunStops : WindowCommand → Stop → Told → Told → Type 0
-RunStops c stop old new = StopTold (base_name c) stop old new × IsBadOf c old stop
-
--- a step of the run stops, where the file is part 0
-abbrev pub StopsFrom : ℕ → Stop → Told → Told → Type 0
-StopsFrom file stop old new = (name_of : Spot → Option (List ℕ)) → name_of (Part 0) ≡ Some (old.place file).name → StopTold name_of stop old new
+-- why the run over the file of a command stops; its calls were in order
+pub record RunStops (c : WindowCommand) (stop : Stop) (calls : List CallMade) (old new : Told) : Type 0 where
+  pub opens : OpensInOrder (c.file ∷ []) calls
+  pub fails : StopNamed part_place stop calls
+  pub bad : IsBadOf c old stop
 
 -- where the stop is no want of memory, the command's job is valid
 abbrev pub IsOfValid : WindowCommand → Stop → Type 0
@@ -59,4 +66,4 @@ IsOfValid c NoMemory = ⊤
 -- why `window` ends early: its job is refused, or it stops
 abbrev pub BaseHalts : WindowCommand → Option Told → Option Told → Halt → Type 0
 BaseHalts c old new (Refused why) = base_refusal c ≡ Some why
-BaseHalts c old new (Stopped stop) = WhereTold (RunStops c stop) old new × IsOfValid c stop
+BaseHalts c old new (Stopped stop) = WhereTold (Calling (RunStops c stop)) old new × IsOfValid c stop

@@ -1,17 +1,17 @@
 // The run of `window`: one file, read piece by piece, and one window over its events. A row is written as soon as the
 // watermark has passed its end, before the next piece is read.
-ghost use Rattle.std.specs.Prelude.{◌≡◌, ◌≤◌, ◌<◌, ◌≤ℤ◌, pos, ℕ, List, [], Option, OnOk, IfErr, All, Err, true};
+ghost use Rattle.std.specs.Prelude.{◌≡◌, ◌≤◌, ◌<◌, ◌≤ℤ◌, pos, List, [], OnOk, IfErr, All, Err, true};
 ghost use Rattle.jet_items.specs.Values.{EventValue, RowValue};
 ghost use Rattle.jet_cli.specs.Counting.{Counts};
-ghost use Rattle.jet_cli.specs.LineStops.{LineStop, RunStops};
+ghost use Rattle.jet_cli.specs.LineStops.{LineStop, RunStops, StepStops};
 ghost use Rattle.jet_cli.specs.inner.Progress.{TookLine};
 ghost use Rattle.jet_file.specs.Outside.{WhereTold, LacksFile};
 ghost use Rattle.jet_cli.specs.inner.Ending.{Ends};
-ghost use Rattle.jet_worker.specs.Stopping.{IsForOutside, IsNoBadLine, OpenOutcome, Outcome, StopTold};
+ghost use Rattle.jet_worker.specs.Calls.{Calling};
+ghost use Rattle.jet_worker.specs.Stopping.{IsForOutside, IsNoBadLine, IsWriting, OpenOutcome, Outcome};
 ghost use Rattle.jet_cli.specs.Done.{IsDone};
 ghost use Rattle.jet_cli.specs.WordsView.{window_in};
 ghost use Rattle.jet_items.specs.Ranges.{most_time};
-ghost use Rattle.jet_worker.specs.declared.stop.Spot.{Spot};
 ghost use Rattle.jet_cli.specs.inner.Took.{IsInStep, Prints};
 ghost use Rattle.jet_cli.specs.Words.{WindowCommand};
 
@@ -64,7 +64,7 @@ fn end_file<O: Outside>(alloc: Global, counter: &mut WindowCounter, out: &mut O)
         → Counts c events table counter.old.marker counter.old.window → Prints c counter.old
         → counter.old.rows.items ≡ [] → counter.old.notes.items ≡ []
         → Ends c events table (O.told out.old) (O.told out.new)) }
-    ensures stop { IfErr result (λ stop. (name_of : Spot → Option (List ℕ)) → IsNoBadLine stop × WhereTold (StopTold name_of stop) (O.told out.old) (O.told out.new)) }
+    ensures stop { IfErr result (λ stop. IsNoBadLine stop × WhereTold (StepStops IsWriting stop) (O.told out.old) (O.told out.new)) }
     ensures outcome { Outcome O.opened O.steady O.faults out.old out.new result }
 {
     match counter.finish(alloc) {
@@ -84,7 +84,7 @@ pub(crate) fn run_window<O: Outside>(
     requires slide { policy.slide ≡ pos words.now.slide }
     requires lag { words.now.lag ≤ most_time }
     ensures done { OnOk result (WhereTold (IsDone (window_in words.now) (O.opened out.old) (O.opened out.new)) (O.told out.old) (O.told out.new)) }
-    ensures stop { IfErr result (λ stop. WhereTold (RunStops (window_in words.now) stop) (O.told out.old) (O.told out.new)) }
+    ensures stop { IfErr result (λ stop. WhereTold (Calling (RunStops (window_in words.now) stop)) (O.told out.old) (O.told out.new)) }
     ensures works { O.steady out.old ≡ true → IfErr result (λ stop. IsForOutside stop → LacksFile words.now.file.now (O.told out.old)) }
     ensures outcome { OpenOutcome O.steady O.faults out.old out.new result }
 {

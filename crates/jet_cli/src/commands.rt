@@ -1,15 +1,15 @@
 // What each command does.
 ghost use Rattle.std.specs.Prelude.{◌≡◌, ◌≤ℤ◌, pos, true, None, OnOk, IfErr};
 ghost use Rattle.jet_file.specs.Outside.{WhereTold, LacksFile};
+ghost use Rattle.jet_worker.specs.Calls.{Calling};
 ghost use Rattle.jet_cli.specs.BaseJob.{base_fault};
 ghost use Rattle.jet_cli.specs.CheckedJob.{CheckHalts, IsCheckedJob, LacksFiles};
 ghost use Rattle.jet_cli.specs.Done.{IsDone};
 ghost use Rattle.jet_cli.specs.inner.Ended.{status_of};
-ghost use Rattle.jet_cli.specs.inner.Halting.{HaltOutcome, HaltTold, IsKnown, IsNoBadHalt, IsOutsideHalt, IsRefusal};
-ghost use Rattle.jet_cli.specs.JobFiles.{job_name};
+ghost use Rattle.jet_cli.specs.inner.Halting.{HaltOutcome, IsKnown, IsNoBadHalt, IsOutsideHalt, IsRefusal};
 ghost use Rattle.jet_cli.specs.LineStops.{BaseHalts};
 ghost use Rattle.jet_cli.specs.inner.Meeting.{Meets};
-ghost use Rattle.jet_cli.specs.Planned.{IsPlanned};
+ghost use Rattle.jet_cli.specs.Planned.{IsPlanned, PlanHalts};
 ghost use Rattle.jet_cli.specs.Refusals.{text_refusal};
 ghost use Rattle.jet_cli.specs.WordsView.{AreSmall, IsSmall, command_in, job_read, window_in};
 
@@ -70,8 +70,8 @@ fn run_base<O: Outside>(alloc: Global, words: &WindowWords<'_>, out: &mut O) -> 
 
 // Writes the text of the plan of a job file to the rows.
 fn run_plan<O: Outside>(alloc: Global, words: &JobWords<'_>, out: &mut O) -> Result<(), Halt>
-    ensures done { OnOk result (WhereTold (IsPlanned (job_read words.now) (O.opened out.old) (O.opened out.new)) (O.told out.old) (O.told out.new)) }
-    ensures halt { IfErr result (λ halt. WhereTold (λ old. HaltTold (job_name (job_read words.now)) (text_refusal words.now.options (old.content words.now.job.now)) halt old) (O.told out.old) (O.told out.new)) }
+    ensures done { OnOk result (WhereTold (Calling (IsPlanned (job_read words.now) (O.opened out.old) (O.opened out.new))) (O.told out.old) (O.told out.new)) }
+    ensures halt { IfErr result (λ halt. WhereTold (Calling (PlanHalts (job_read words.now) halt)) (O.told out.old) (O.told out.new)) }
     ensures known { IfErr result (λ halt. WhereTold (λ old new. IsKnown (text_refusal words.now.options (old.content words.now.job.now)) halt) (O.told out.old) (O.told out.new)) }
     ensures outcome { HaltOutcome O.steady O.faults out.old out.new result }
     ensures works { O.steady out.old ≡ true → IfErr result (λ halt. IsOutsideHalt halt → LacksFile words.now.job.now (O.told out.old)) }
@@ -86,8 +86,8 @@ fn run_plan<O: Outside>(alloc: Global, words: &JobWords<'_>, out: &mut O) -> Res
 
 // Checks a job and the lines of all its data files, and writes the text of the check to the rows.
 fn run_check<O: Outside>(alloc: Global, words: &JobWords<'_>, out: &mut O) -> Result<(), Halt>
-    ensures done { OnOk result (WhereTold (IsCheckedJob (job_read words.now) (O.opened out.old) (O.opened out.new)) (O.told out.old) (O.told out.new)) }
-    ensures halt { IfErr result (λ halt. WhereTold (CheckHalts (job_read words.now) halt) (O.told out.old) (O.told out.new)) }
+    ensures done { OnOk result (WhereTold (Calling (IsCheckedJob (job_read words.now) (O.opened out.old) (O.opened out.new))) (O.told out.old) (O.told out.new)) }
+    ensures halt { IfErr result (λ halt. WhereTold (Calling (CheckHalts (job_read words.now) halt)) (O.told out.old) (O.told out.new)) }
     ensures known { IfErr result (λ halt. WhereTold (λ old new. IsKnown (text_refusal words.now.options (old.content words.now.job.now)) halt) (O.told out.old) (O.told out.new)) }
     ensures outcome { HaltOutcome O.steady O.faults out.old out.new result }
     ensures works { O.steady out.old ≡ true → IfErr result (λ halt. IsOutsideHalt halt → LacksFiles (job_read words.now) (O.told out.old)) }

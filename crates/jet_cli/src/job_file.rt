@@ -2,12 +2,11 @@
 ghost use Rattle.std.specs.Prelude.{◌≡◌, true, IfOk, IfErr};
 ghost use Rattle.jet_file.specs.Outside.{WhereTold, LacksFile};
 ghost use Rattle.jet_plan.specs.Plans.{IsValid};
-ghost use Rattle.jet_worker.specs.Feeding.{StopsAt};
+ghost use Rattle.jet_worker.specs.Calls.{Calling};
 ghost use Rattle.jet_worker.specs.Stopping.{IsForOutside, IsNoBadLine, OpenOutcome};
-ghost use Rattle.jet_worker.specs.declared.stop.Spot.{Spot as Place};
 ghost use Rattle.jet_cli.specs.inner.Halting.{HaltOutcome, IsEarly, IsNoBadHalt, IsOutsideHalt};
 ghost use Rattle.jet_cli.specs.declared.halt.Halt.TheVariants.{Stopped};
-ghost use Rattle.jet_cli.specs.JobFiles.{ReadHalts, ReadsJobFile, ReadsPlan};
+ghost use Rattle.jet_cli.specs.JobFiles.{ReadHalts, ReadsJobFile, ReadsPlan, StopsJob};
 ghost use Rattle.jet_cli.specs.WordsView.{job_read};
 
 use crate::halt::Halt;
@@ -26,7 +25,7 @@ const MOST_TEXT: usize = 1_048_577;
 // Opens a job file and reads its text.
 fn job_text<O: Outside>(alloc: Global, name: &[u8], out: &mut O) -> Result<Vec<u8>, Stop>
     ensures text { IfOk result (λ text. WhereTold (ReadsJobFile name.now text.items (O.opened out.old) (O.opened out.new)) (O.told out.old) (O.told out.new)) }
-    ensures stop { IfErr result (λ stop. WhereTold (StopsAt Spot.Job name.now stop) (O.told out.old) (O.told out.new)) }
+    ensures stop { IfErr result (λ stop. WhereTold (Calling (StopsJob name.now stop)) (O.told out.old) (O.told out.new)) }
     ensures outcome { OpenOutcome O.steady O.faults out.old out.new result }
     ensures works { O.steady out.old ≡ true → IfErr result (λ stop. IsForOutside stop → LacksFile name.now (O.told out.old)) }
     ensures early { IfErr result (λ stop. IsEarly (Stopped stop)) }
@@ -44,7 +43,7 @@ pub(crate) fn read_plan<O: Outside>(
 ) -> Result<Plan, Halt>
     ensures plan { IfOk result (λ plan. WhereTold (ReadsPlan (job_read words.now) plan (O.opened out.old) (O.opened out.new)) (O.told out.old) (O.told out.new)) }
     ensures valid { IfOk result (λ plan. IsValid plan.dag plan.settings) }
-    ensures halt { IfErr result (λ halt. WhereTold (ReadHalts (job_read words.now) halt) (O.told out.old) (O.told out.new)) }
+    ensures halt { IfErr result (λ halt. WhereTold (Calling (ReadHalts (job_read words.now) halt)) (O.told out.old) (O.told out.new)) }
     ensures outcome { HaltOutcome O.steady O.faults out.old out.new result }
     ensures works { O.steady out.old ≡ true → IfErr result (λ halt. IsOutsideHalt halt → LacksFile words.now.job.now (O.told out.old)) }
     ensures early { IfErr result IsEarly }

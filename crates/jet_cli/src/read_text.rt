@@ -20,7 +20,7 @@ pub(crate) fn read_text<O: Outside>(
 ) -> Result<Vec<u8>, Stop>
     requires opened { IsTrue (O.opened out.old file) }
     ensures text { IfOk result (λ text. WhereTold (ReadsFront file most text.items) (O.told out.old) (O.told out.new)) }
-    ensures stop { IfErr result (λ stop. WhereTold (StopsReading spot file stop) (O.told out.old) (O.told out.new)) }
+    ensures stop { IfErr result (λ stop. WhereTold (StopsReading spot file most stop) (O.told out.old) (O.told out.new)) }
     ensures outcome { Outcome O.opened O.steady O.faults out.old out.new result }
     ensures call { IfErr result (IsOfCall Read spot) }
     ensures no_bad_line { IfErr result IsNoBadLine }

@@ -1,14 +1,15 @@
 // The top call.
-ghost use Rattle.std.specs.Prelude.{◌≡◌, ◌<◌, ◌≤◌, ◌↔◌, ℕ, Some, None, map, string_bytes, IsSomeAnd, IsTrue};
+ghost use Rattle.std.specs.Prelude.{◌≡◌, ◌<◌, ◌≤◌, ◌↔◌, ℕ, Some, None, map, string_bytes, IfSome, IsSomeAnd, IsTrue};
 ghost use Rattle.jet_file.specs.Causes.{Rose};
 ghost use Rattle.jet_file.specs.Headline.{WritesNothing};
 ghost use Rattle.jet_file.specs.Outside.{WhereTold};
 ghost use Rattle.jet_lines.specs.declared.fault.LineFault.{LineFault};
-ghost use Rattle.jet_worker.specs.Stopping.{EndsFailed};
+ghost use Rattle.jet_worker.specs.Calls.{Calling, EndsFailed};
 ghost use Rattle.jet_worker.specs.declared.stop.Call.{Call};
 ghost use Rattle.jet_worker.specs.declared.stop.Spot.{Spot};
-ghost use Rattle.jet_cli.specs.Answers.{OrNoMemory, HasFiles, HasGoodFiles, HasNoJobFile, IsJobUnread, IsOutsideFault, IsUsageOrRefused};
-ghost use Rattle.jet_cli.specs.Commands.{Finishes, StaysQuiet, StaysQuietInTime, HasBadLine, names_of};
+ghost use Rattle.jet_cli.specs.Answers.{OrNoMemory, HasFiles, HasGoodFiles, HasNoJobFile, IsCutShort, IsJobUnread, IsOutsideFault, IsUsageOrRefused};
+ghost use Rattle.jet_cli.specs.CallOrder.{IsInOrder, place_in};
+ghost use Rattle.jet_cli.specs.Commands.{Finishes, StaysQuiet, StaysQuietInTime, HasBadLine, HasBegun};
 ghost use Rattle.jet_cli.specs.Refusals.{MayBeRefused, RefusalIs};
 ghost use Rattle.jet_cli.specs.Words.{command_of, JetCommand};
 ghost use Rattle.jet_cli.specs.declared.status.Refusal.{Refusal};
@@ -39,6 +40,16 @@ pub fn run_jet<R: Threads + Sync, O: Outside, G: Gate + Sync, L: Ledger>(
     ensures in_time { result ≡ Status.Done → IsSomeAnd (command_of (map string_bytes words.now))
         (λ c. WhereTold (StaysQuietInTime c) (O.told out.old) (O.told out.new)) }
 
+    // However it ends, its calls come in this order: the job file of `plan` and `check` is opened and read, and no more
+    // bytes are taken of it than one too many; then the data files are opened in the order of their numbers, and no
+    // other; then `check` reads each and writes its line, one after another.
+    ensures calls { IfSome (command_of (map string_bytes words.now))
+        (λ c. WhereTold (Calling (IsInOrder c)) (O.told out.old) (O.told out.new)) }
+
+    // Where a call fails or memory runs out, `plan` and `check` have written a front of their text.
+    ensures begun { IsCutShort result → IsSomeAnd (command_of (map string_bytes words.now))
+        (λ c. WhereTold (HasBegun c) (O.told out.old) (O.told out.new)) }
+
     // No step is counted yet, and no call undoes a fault or ends the steadiness of the outside.
     ensures steps { steps.new ≡ steps.old }
     ensures steady_same { O.steady out.new ≡ O.steady out.old }
@@ -60,11 +71,12 @@ pub fn run_jet<R: Threads + Sync, O: Outside, G: Gate + Sync, L: Ledger>(
     ensures bad_line { (part line : ℕ) (why : LineFault) → result ≡ Status.BadLine part line why
         → IsSomeAnd (command_of (map string_bytes words.now)) (λ c. HasBadLine c part line why (O.told out.old) (O.told out.new)) }
 
-    // A fault of the outside comes only where its count rose, and wherever it rose, and names the call that failed.
+    // A fault of the outside comes only where its count rose, and wherever it rose, and names the call that failed: a
+    // file by the place of its opening.
     ensures fault { IsOutsideFault result → Rose (O.faults out.old) (O.faults out.new) }
     ensures every_fault { O.faults out.old < O.faults out.new → IsOutsideFault result }
     ensures fault_call { (call : Call) (spot : Spot) → result ≡ Status.OutsideFault call spot
-        → IsSomeAnd (command_of (map string_bytes words.now)) (λ c. WhereTold (λ a. EndsFailed (names_of c a.content) call spot a) (O.told out.old) (O.told out.new)) }
+        → IsSomeAnd (command_of (map string_bytes words.now)) (λ c. WhereTold (Calling (λ calls _ _. EndsFailed (place_in c) call spot calls)) (O.told out.old) (O.told out.new)) }
 
     // No fault comes of an outside on which no call fails and the files are there.
     ensures steady { (c : JetCommand) → command_of (map string_bytes words.now) ≡ Some c

@@ -3,12 +3,13 @@ use Rattle.std.proofs.Common.{◌≡◌, ℕ, suc, ◌+◌, ◌<◌, ◌≤◌, 
 use Rattle.std.specs.Prelude.{IfErr, IsSome, OnOk, slice_get}
 use Rattle.std.specs.List.{enumerate_from}
 use Rattle.std.proofs.Math.Seq.{take-suc}
-use Rattle.std.proofs.lemmas.List.{drop_all, drop_more, get_or-map, length-map, take-append-drop, take-map, take_all}
+use Rattle.std.proofs.lemmas.List.{drop_all, drop_more, length-map, take-append-drop, take-map, take_all}
 use Rattle.std.proofs.lemmas.List.Elements.{All-get_or}
-use Rattle.std.proofs.lemmas.List.FromFn.{get_or-enumerate_from, length-enumerate_from}
+use Rattle.std.proofs.lemmas.List.FromFn.{length-enumerate_from}
 use Rattle.jet_file.specs.Outside.{WhereTold, Told}
 use Rattle.jet_flow.specs.DataFiles.{DataFile, file_name}
 use Rattle.jet_worker.specs.CheckText.{Checks}
+use Rattle.jet_worker.specs.Calls.{Calling}
 use Rattle.jet_worker.specs.Checked.{AreThere, CheckStops, IsChecked, numbered}
 use Rattle.jet_worker.specs.inner.FileChecks.{HasChecked, StopsChecking}
 use Rattle.jet_worker.specs.inner.Opening.{AreApart, AreNew, HasLag, HasOpened, Opened, StopsOpening, pair_of}
@@ -16,9 +17,9 @@ use Rattle.jet_worker.specs.Stopping.{IsNoBadLine, OpenOutcome, Outcome}
 use Rattle.jet_worker.specs.declared.stop.Stop.{Stop}
 use Rattle.jet_worker.specs.declared.stop.Stop.TheVariants.{NoMemory}
 use Rattle.jet_worker.proofs.DoneLemmas.{HasDone, all_done, apart_in, none_done, one_done}
-use Rattle.jet_worker.proofs.GoesLemmas.{goes_same, goes_then, goes_weaker}
-use Rattle.jet_worker.proofs.OpenLemmas.{caused, get_is}
-use Rattle.jet_worker.proofs.StopLemmas.{IsAt, file_stops, nothing_begun, opening_stops}
+use Rattle.jet_file.proofs.GoesLemmas.{goes_same, goes_then, goes_weaker}
+use Rattle.jet_worker.proofs.OpenLemmas.{caused, get_is, pair_at}
+use Rattle.jet_worker.proofs.StopLemmas.{IsAt, file_stops, nothing_done, opening_stops}
 
 -- what the loop over the opened files keeps: the first n of them are done
 pub record Checking {S : Type 0} (told : S → Option Told) (opened : S → ℕ → Bool) (steady : S → Bool) (faults : S → ℕ) (files : List DataFile) (most : ℕ) (unit : ℤ) (all : List Opened) (n : ℕ) (start now : S) : Type 0 where
@@ -36,28 +37,19 @@ first_more all n d short = let more : n + 1 ≡ suc n = omega arith in ap (λ (k
 parts_at : (all : List Opened) (n : ℕ) (d : Opened) → n < length all → all ≡ take n all ++ get_or all n d ∷ drop (n + 1) all
 parts_at all n d short = sym (take-append-drop n all) ∙ ap (λ (l : List Opened). take n all ++ l) (drop_more all n d short)
 
-pair_at : (files : List DataFile) (all : List Opened) (n : ℕ) (d : Opened) → map pair_of all ≡ enumerate_from 0 files → n < length all → (n < length files) × (pair_of (get_or all n d) ≡ (n, get_or files n d.file))
-pair_at files all n d pairs short =
-    let count : length all ≡ length files = sym (length-map all pair_of) ∙ ap length pairs ∙ length-enumerate_from 0 files in
-    let within : n < length files = omega (arith, count, short) in
-    let none : 0 + n ≡ n = omega arith in (
-      within,
-      sym (get_or-map pair_of all n d (pair_of d) short) ∙ ap (λ (l : List (ℕ × DataFile)). get_or l n (pair_of d)) pairs ∙ get_or-enumerate_from 0 files n (pair_of d) within
-          ∙ ap (λ (k : ℕ). (k, get_or files n d.file)) none,
-    )
-
 pub lag_at : (files : List DataFile) (all : List Opened) (n : ℕ) (d : Opened) → map pair_of all ≡ enumerate_from 0 files → n < length all → All HasLag files → HasLag (get_or all n d).file
 lag_at files all n d pairs short lags =
     let pair = pair_at files all n d pairs short in
     subst HasLag (sym (ap (λ (p : ℕ × DataFile). p.1) pair.1)) (All-get_or HasLag files n d.file pair.0 lags)
 
-at_place : (c : Checks) (all : List Opened) (n : ℕ) (d : Opened) → map pair_of all ≡ numbered c → n < length all → IsAt c (take n all) (get_or all n d)
-at_place c all n d pairs short =
+stands_at : (c : Checks) (all : List Opened) (n : ℕ) (d : Opened) → map pair_of all ≡ numbered c → n < length all → IsAt c (take n all) (drop (n + 1) all) (get_or all n d)
+stands_at c all n d pairs short =
     let pair = pair_at c.files all n d pairs short in
     let part : (get_or all n d).part ≡ n = ap (λ (p : ℕ × DataFile). p.0) pair.1 in
     let file : (get_or all n d).file ≡ get_or c.files n d.file = ap (λ (p : ℕ × DataFile). p.1) pair.1 in
     record {
       is = ap (slice_get c.files) part ∙ get_is c.files n (get_or all n d).file d.file pair.0 file;
+      all = ap (map pair_of) (sym (parts_at all n d short)) ∙ pairs;
       before = ap (λ (k : ℕ). take k (numbered c)) part ∙ ap (take n) (sym pairs) ∙ take-map pair_of n all;
       through = ap (λ (k : ℕ). take (k + 1) (numbered c)) part ∙ ap (take (n + 1)) (sym pairs) ∙ take-map pair_of (n + 1) all ∙ ap (map pair_of) (first_more all n d short);
     }
@@ -109,26 +101,26 @@ checking_more told opened steady faults files most unit all n start now next d h
 
 pub checking_ends : {S : Type 0} (told : S → Option Told) (opened : S → ℕ → Bool) (steady : S → Bool) (faults : S → ℕ) (files : List DataFile) (most : ℕ) (unit : ℤ) (all : List Opened) (n : ℕ) (start now : S)
     → Checking told opened steady faults files most unit all n start now → length all ≤ n
-    → (c : Checks) → c.files ≡ files → c.most ≡ most → unit ≡ pos c.unit → WhereTold (IsChecked c (opened start) (opened now)) (told start) (told now)
+    → (c : Checks) → c.files ≡ files → c.most ≡ most → unit ≡ pos c.unit → WhereTold (Calling (IsChecked c (opened start) (opened now))) (told start) (told now)
 checking_ends told opened steady faults files most unit all n start now h end c is most_is unit_is =
-    goes_weaker (HasDone c all (drop n all)) (IsChecked c (opened start) (opened now))
+    goes_weaker (HasDone c all (drop n all)) (Calling (IsChecked c (opened start) (opened now)))
     (λ a b r. all_done c (opened start) (opened now) all (drop n all) a b (h.pairs ∙ sym (ap (enumerate_from 0) is)) (drop_all n all end) h.numbers r) (told start) (told now)
     (subst (λ (l : List Opened). WhereTold (HasDone c l (drop n all)) (told start) (told now)) (take_all n all end) (h.told_so c is most_is unit_is))
 
 pub checking_stops : {S : Type 0} (told : S → Option Told) (opened : S → ℕ → Bool) (steady : S → Bool) (faults : S → ℕ) (files : List DataFile) (most : ℕ) (unit : ℤ) (all : List Opened) (n : ℕ) (start now next : S) (d : Opened) (stop : Stop)
     → Checking told opened steady faults files most unit all n start now → n < length all
     → ((c : Checks) → c.most ≡ most → unit ≡ pos c.unit → WhereTold (StopsChecking c (pair_of (get_or all n d)) (get_or all n d).at stop) (told now) (told next))
-    → (c : Checks) → c.files ≡ files → c.most ≡ most → unit ≡ pos c.unit → WhereTold (CheckStops c stop) (told start) (told next)
+    → (c : Checks) → c.files ≡ files → c.most ≡ most → unit ≡ pos c.unit → WhereTold (Calling (CheckStops c stop)) (told start) (told next)
 checking_stops told opened steady faults files most unit all n start now next d stop h short stops c is most_is unit_is =
-    goes_then (HasDone c (take n all) (get_or all n d ∷ drop (n + 1) all)) (StopsChecking c (pair_of (get_or all n d)) (get_or all n d).at stop) (CheckStops c stop)
-    (λ a b e r s. file_stops c (take n all) (drop (n + 1) all) (get_or all n d) stop a b e (at_place c all n d (h.pairs ∙ sym (ap (enumerate_from 0) is)) short) r s) (told start) (told now) (told next)
+    goes_then (HasDone c (take n all) (get_or all n d ∷ drop (n + 1) all)) (StopsChecking c (pair_of (get_or all n d)) (get_or all n d).at stop) (Calling (CheckStops c stop))
+    (λ a b e r s. file_stops c (take n all) (drop (n + 1) all) (get_or all n d) stop a b e (stands_at c all n d (h.pairs ∙ sym (ap (enumerate_from 0) is)) short) r s) (told start) (told now) (told next)
     (subst (λ (l : List Opened). WhereTold (HasDone c (take n all) l) (told start) (told now)) (drop_more all n d short) (h.told_so c is most_is unit_is)) (stops c most_is unit_is)
 
-pub opening_stopped : (c : Checks) (stop : Stop) (start now : Option Told) → IsNoBadLine stop → WhereTold (StopsOpening c stop) start now → WhereTold (CheckStops c stop) start now
-opening_stopped c stop start now never h = goes_weaker (StopsOpening c stop) (CheckStops c stop) (λ a b r. opening_stops c stop a b never r) start now h
+pub opening_stopped : (c : Checks) (stop : Stop) (start now : Option Told) → IsNoBadLine stop → WhereTold (StopsOpening c stop) start now → WhereTold (Calling (CheckStops c stop)) start now
+opening_stopped c stop start now never h = goes_weaker (StopsOpening c stop) (Calling (CheckStops c stop)) (λ a b r. opening_stops c stop a b never r) start now h
 
-pub goes_nowhere : (c : Checks) (start : Option Told) → WhereTold (CheckStops c NoMemory) start start
-goes_nowhere c start = goes_same (CheckStops c NoMemory) (nothing_begun c) start
+pub goes_nowhere : (c : Checks) (start : Option Told) → WhereTold (Calling (CheckStops c NoMemory)) start start
+goes_nowhere c start = goes_same (Calling (CheckStops c NoMemory)) (nothing_done c) start
 
 -- the outcome of a step behind others
 pub outcome_then : {S T : Type 0} (opened : S → ℕ → Bool) (steady : S → Bool) (faults : S → ℕ) (start now next : S) (r : Result T Stop) → steady now ≡ steady start → faults now ≡ faults start

@@ -1,45 +1,56 @@
 -- The check of one file: from the reading to the text that is written.
-use Rattle.std.proofs.Common.{◌≡◌, ℕ, List, [], ◌++◌, map, length, Option, Result, Ok, Err, refl, sym, ap, ◌∙◌, inl, inr, append-nil, append_assoc}
+use Rattle.std.proofs.Common.{◌≡◌, ℕ, List, [], ◌++◌, map, length, Option, Result, Ok, Err, refl, sym, ap, ◌∙◌, subst, inl, inr, append-nil, append_assoc}
 use Rattle.std.specs.Prelude.{IfErr}
 use Rattle.jet_lines.specs.Lines.{lines_of}
-use Rattle.jet_file.specs.Outside.{Told, CallMade, WhereTold, Wrote, rest_of}
+use Rattle.jet_file.specs.Outside.{Told, CallMade, WhereTold, Read, Writing, Wrote, rest_of}
 use Rattle.jet_file.specs.Writing.{HasWritten}
 use Rattle.jet_file.specs.declared.outside.Out.TheVariants as out
 use Rattle.jet_flow.specs.DataFiles.{DataFile}
 use Rattle.jet_worker.specs.CheckText.{Checks, check_line, first_bad}
 use Rattle.jet_worker.specs.Feeding.{StopsWriting, WritesText}
 use Rattle.jet_worker.specs.inner.FileChecks.{ChecksFile, HasChecked, HasTallied, IsBadIn, StopsChecking, StopsReading}
-use Rattle.jet_worker.specs.Stopping.{IsNoBadLine}
+use Rattle.jet_worker.specs.Stopping.{IsCallIn, IsNoBadLine, LastIs, LastOf}
+use Rattle.jet_worker.specs.declared.stop.Call.{Call}
+use Rattle.jet_worker.specs.declared.stop.Call.TheVariants.{Write}
+use Rattle.jet_worker.specs.declared.stop.Spot.{Spot}
+use Rattle.jet_worker.specs.declared.stop.Spot.TheVariants.{Part, Rows}
 use Rattle.jet_worker.specs.inner.Tallying.{Tallied}
 use Rattle.jet_worker.specs.declared.stop.Stop.{Stop}
 use Rattle.jet_worker.specs.declared.stop.Stop.TheVariants.{BadLine, Outside, NoMemory}
 use Rattle.jet_worker.specs.declared.tally.Tally.{Tally}
-use Rattle.jet_worker.proofs.FeedLemmas.{stop_later}
-use Rattle.jet_worker.proofs.GoesLemmas.{goes_then, goes_weaker}
+use Rattle.jet_file.proofs.GoesLemmas.{goes_then, goes_weaker}
 use Rattle.jet_worker.proofs.TallyLemmas.{none_is}
 
 -- the reading stopped, and nothing was written
 pub goes_unread : (c : Checks) (p : ℕ × DataFile) (at : ℕ) (stop : Stop) (start now : Option Told) → WhereTold (StopsReading c p at stop) start now → WhereTold (StopsChecking c p at stop) start now
 goes_unread c p at stop start now = goes_weaker (StopsReading c p at stop) (StopsChecking c p at stop) (λ a b h. record {
   front = [];
-  told = h.told;
   bad = h.bad;
   whole = inl refl;
-  content = h.content;
-  rows = ap (λ w. w out.Rows) h.written ∙ sym (append-nil (a.written out.Rows));
-  notes = ap (λ w. w out.Notes) h.written;
+  content = h.reads.content;
+  rows = ap (λ w. w out.Rows) h.reads.written ∙ sym (append-nil (a.written out.Rows));
+  notes = ap (λ w. w out.Notes) h.reads.written;
+  counts = h.reads.counts;
+  lengths = [];
+  last = h.reads.last;
+  fails = h.reads.fails;
+  trace = h.reads.trace ∙ ap (λ (l : List CallMade). a.trace ++ l ++ h.reads.last) (sym (append-nil (map (Read at) h.reads.counts)));
 }) start now
 
 -- no memory was found for the text
 pub goes_untold : (c : Checks) (p : ℕ × DataFile) (at count : ℕ) (tally : Tally) (start now : Option Told) → WhereTold (HasTallied c p at count tally) start now → WhereTold (StopsChecking c p at NoMemory) start now
 goes_untold c p at count tally start now = goes_weaker (HasTallied c p at count tally) (StopsChecking c p at NoMemory) (λ a b h. record {
   front = [];
-  told = λ name_of named. tt;
   bad = tt;
   whole = inl refl;
   content = h.run.content;
   rows = ap (λ w. w out.Rows) h.run.written ∙ sym (append-nil (a.written out.Rows));
   notes = ap (λ w. w out.Notes) h.run.written;
+  counts = h.run.counts;
+  lengths = [];
+  last = [];
+  fails = refl;
+  trace = h.run.trace ∙ ap (λ (l : List CallMade). a.trace ++ l) (sym (append-nil (map (Read at) h.run.counts))) ∙ sym (append-nil (a.trace ++ (map (Read at) h.run.counts ++ [])));
 }) start now
 
 notes_not_rows : out.Notes ≡ out.Rows → ⊥
@@ -63,17 +74,24 @@ checked c p at count tally text a b d is h w = record {
   content = w.content ∙ h.run.content;
   rows = w.written ∙ ap (λ (l : List ℕ). l ++ text) (ap (λ f. f out.Rows) h.run.written) ∙ ap (λ (l : List ℕ). a.written out.Rows ++ l) (is h.bytes h.tallied h.count_is);
   notes = w.others out.Notes notes_not_rows ∙ ap (λ f. f out.Notes) h.run.written;
-  calls = h.run.calls ++ map (Wrote out.Rows) w.lengths;
+  counts = h.run.counts;
+  lengths = w.lengths;
   trace = w.trace ∙ append-nil (b.trace ++ map (Wrote out.Rows) w.lengths) ∙ ap (λ (l : List CallMade). l ++ map (Wrote out.Rows) w.lengths) h.run.trace
-      ∙ append_assoc a.trace h.run.calls (map (Wrote out.Rows) w.lengths);
+      ∙ append_assoc a.trace (map (Read at) h.run.counts) (map (Wrote out.Rows) w.lengths);
 }
+
+-- the call that failed is a write to Rows
+rows_last : (spot : Spot) (file : ℕ) (stop : Stop) (last : List CallMade) → LastOf Write Rows (Writing out.Rows) stop last → LastIs (IsCallIn spot file) stop last
+rows_last spot file (BadLine part line why) last h = absurd h
+rows_last spot file (Outside failed at) last h =
+    (Writing out.Rows, h.2, subst (λ (k : Call). IsCallIn spot file k at (Writing out.Rows)) (sym h.0) (subst (λ (s : Spot). IsCallIn spot file Write s (Writing out.Rows)) (sym h.1) tt))
+rows_last spot file NoMemory last h = h
 
 -- the text was not all written
 unwritten : (c : Checks) (p : ℕ × DataFile) (at count : ℕ) (tally : Tally) (text : List ℕ) (stop : Stop) (a b d : Told) → ((bytes : List ℕ) → Tallied c p (lines_of bytes) tally → count ≡ length (lines_of bytes) → text ≡ check_line c p bytes)
     → IsNoBadLine stop → HasTallied c p at count tally a b → StopsWriting out.Rows text stop b d → StopsChecking c p at stop a d
 unwritten c p at count tally text stop a b d is never h w = record {
   front = w.front;
-  told = λ name_of named. stop_later name_of stop h.run.calls a b d h.run.trace (w.told name_of);
   bad = none_bad c p stop never (rest_of a at);
   whole = inr (
     never,
@@ -86,6 +104,12 @@ unwritten c p at count tally text stop a b d is never h w = record {
   content = w.content ∙ h.run.content;
   rows = w.written ∙ ap (λ (l : List ℕ). l ++ w.front) (ap (λ f. f out.Rows) h.run.written);
   notes = w.others out.Notes notes_not_rows ∙ ap (λ f. f out.Notes) h.run.written;
+  counts = h.run.counts;
+  lengths = w.lengths;
+  last = w.last;
+  fails = rows_last (Part p.0) at stop w.last w.fails;
+  trace = w.trace ∙ ap (λ (l : List CallMade). l ++ map (Wrote out.Rows) w.lengths ++ w.last) h.run.trace
+      ∙ ap (λ (l : List CallMade). l ++ w.last) (append_assoc a.trace (map (Read at) h.run.counts) (map (Wrote out.Rows) w.lengths));
 }
 
 pub goes_text : (c : Checks) (p : ℕ × DataFile) (at count : ℕ) (tally : Tally) (text : List ℕ) (r : Result (Unit {0}) Stop) (start now next : Option Told)

@@ -1,19 +1,21 @@
 -- The check of all opened files, one after another.
-use Rattle.std.proofs.Common.{◌≡◌, ◌≢◌, ℕ, ◌+◌, Bool, true, false, List, [], ◌∷◌, ◌++◌, map, length, get_or, Option, Some, None, All, refl, sym, ap, ◌∙◌, subst, arith, append-nil, append_assoc}
-use Rattle.std.specs.Prelude.{IsSome, IsSomeAnd}
+use Rattle.std.proofs.Common.{◌≡◌, ◌≢◌, ℕ, ◌+◌, ◌<◌, Bool, true, false, List, [], ◌∷◌, ◌++◌, map, length, get_or, Option, Some, None, All, refl, sym, ap, ◌∙◌, subst, inl, arith, append-nil, append_assoc}
+use Rattle.std.specs.Prelude.{IsSome, IsSomeAnd, flat_map, slice_get}
 use Rattle.std.specs.Option.{unwrap_or}
 use Rattle.std.proofs.lemmas.Grind.{flat_map-append}
 use Rattle.std.proofs.lemmas.List.{map-append}
 use Rattle.std.proofs.lemmas.List.Elements.{All-append, All-nil, All-cons, All-head, All-map, All-tail, All-weaker}
-use Rattle.jet_file.specs.Headline.{IsReadWhole}
 use Rattle.jet_file.specs.Outside.{CallMade, Place, Told, rest_from, rest_of}
 use Rattle.jet_file.specs.declared.outside.Out.TheVariants as out
 use Rattle.jet_flow.specs.DataFiles.{DataFile, file_name}
+use Rattle.jet_worker.specs.Calls.{Calling, IsNoOpening, ReadsInOrder, Turn, opened_by, opening_call, turn_calls}
 use Rattle.jet_worker.specs.CheckText.{Checks, check_line, first_bad}
-use Rattle.jet_worker.specs.Checked.{AreThere, IsChecked, IsGood, IsRead, check_lines, content_of, numbered}
+use Rattle.jet_worker.specs.Checked.{AreThere, IsChecked, IsGood, IsRead, check_lines, content_of, names_of, numbered}
 use Rattle.jet_worker.specs.inner.FileChecks.{HasChecked}
-use Rattle.jet_worker.specs.inner.Opening.{AreApart, AreNew, HasOpened, IsUnread, Opened, pair_of}
-use Rattle.jet_worker.proofs.OpenLemmas.{all_left, all_right}
+use Rattle.jet_worker.specs.inner.Opening.{AreApart, AreNew, HasOpened, IsUnread, Opened, opening_of, pair_of}
+use Rattle.jet_worker.proofs.CallLemmas.{opened_by_both, turns_more}
+use Rattle.jet_worker.proofs.OpenLemmas.{all_left, all_right, pair_at}
+use Rattle.jet_worker.proofs.OrderLemmas.{at_place, turns_order}
 
 -- ---- contents
 
@@ -54,8 +56,9 @@ pub record HasDone (c : Checks) (done later : List Opened) (old now : Told) : Ty
   pub content : now.content ≡ old.content
   pub rows : now.written out.Rows ≡ old.written out.Rows ++ check_lines c old (map pair_of done)
   pub notes : now.written out.Notes ≡ old.written out.Notes
-  pub calls : List CallMade
-  pub trace : now.trace ≡ old.trace ++ calls
+  pub turns : List Turn
+  pub files : map (λ (t : Turn). t.file) turns ≡ map (λ o. o.1) (map opening_of done)
+  pub trace : now.trace ≡ old.trace ++ (map opening_call (map opening_of (done ++ later)) ++ flat_map turn_calls turns)
 
 pub none_done : (c : Checks) (all : List Opened) (a b : Told) → AreThere c a → HasOpened all a b → HasDone c [] all a b
 none_done c all a b every h = record {
@@ -68,8 +71,9 @@ none_done c all a b every h = record {
   content = h.content;
   rows = ap (λ w. w out.Rows) h.written ∙ sym (append-nil (a.written out.Rows));
   notes = ap (λ w. w out.Notes) h.written;
-  calls = h.calls;
-  trace = h.trace;
+  turns = [];
+  files = refl;
+  trace = h.trace ∙ ap (λ (l : List CallMade). a.trace ++ l) (sym (append-nil (map opening_call (map opening_of all))));
 }
 
 -- ---- one file more
@@ -96,6 +100,22 @@ kept_places : (P : Told → Opened → Type 0) (at : ℕ) (xs : List Opened) (b 
     → All (λ x. x.at ≢ at) xs → All (P b) xs → All (P d) xs
 kept_places P at xs b d moves others apart h = λ k e short. moves (get_or xs k e) (others (get_or xs k e).at (apart k e short)) (h k e short)
 
+-- the turns of files with one more
+pub files_more : (done : List Opened) (o : Opened) (turns : List Turn) (t : Turn) → map (λ (t : Turn). t.file) turns ≡ map (λ o. o.1) (map opening_of done) → t.file ≡ o.at
+    → map (λ (t : Turn). t.file) (turns ++ t ∷ []) ≡ map (λ o. o.1) (map opening_of (done ++ o ∷ []))
+files_more done o turns t files is =
+    map-append (λ (t : Turn). t.file) turns (t ∷ []) ∙ ap (λ (l : List ℕ). l ++ t.file ∷ []) files ∙ ap (λ (n : ℕ). map (λ o. o.1) (map opening_of done) ++ n ∷ []) is
+    ∙ sym (ap (map (λ o. o.1)) (map-append opening_of done (o ∷ [])) ∙ map-append (λ (o : List ℕ × ℕ). o.1) (map opening_of done) (opening_of o ∷ []))
+
+pub trace_more : (a b d : List CallMade) (done later : List Opened) (o : Opened) (turns : List Turn) (t : Turn) → b ≡ a ++ (map opening_call (map opening_of (done ++ o ∷ later)) ++ flat_map turn_calls turns)
+    → d ≡ b ++ turn_calls t → d ≡ a ++ (map opening_call (map opening_of ((done ++ o ∷ []) ++ later)) ++ flat_map turn_calls (turns ++ t ∷ []))
+trace_more a b d done later o turns t one two =
+    let openings : List CallMade = map opening_call (map opening_of (done ++ o ∷ later)) in
+    two ∙ ap (λ (l : List CallMade). l ++ turn_calls t) one ∙ append_assoc a (openings ++ flat_map turn_calls turns) (turn_calls t)
+    ∙ ap (λ (l : List CallMade). a ++ l)
+    (append_assoc openings (flat_map turn_calls turns) (turn_calls t) ∙ ap (λ (l : List CallMade). openings ++ l) (sym (turns_more turns t))
+    ∙ ap (λ (all : List Opened). map opening_call (map opening_of all) ++ flat_map turn_calls (turns ++ t ∷ [])) (sym (append_assoc done (o ∷ []) later)))
+
 pub one_done : (c : Checks) (done later : List Opened) (o : Opened) (a b d : Told) → IsApart done later o → HasDone c done (o ∷ later) a b → HasChecked c (pair_of o) o.at b d → HasDone c (done ++ o ∷ []) later a d
 one_done c done later o a b d apart h k =
     let unread : IsUnread b o = All-head (IsUnread b) o later h.unread in
@@ -104,6 +124,7 @@ one_done c done later o a b d apart h k =
     let good : IsGood c a (pair_of o) = good_if (a.content (file_name o.file)) (λ (content : List ℕ). first_bad c (pair_of o) content ≡ None) there (subst (λ (l : List ℕ). first_bad c (pair_of o) l ≡ None) bytes k.good) in
     let taken : (d.place o.at).taken ≡ length (content_of a o.file) =
     k.taken ∙ ap (λ (p : Place). p.taken + length k.bytes) unread ∙ zero_and (length k.bytes) ∙ ap length bytes in
+    let turn : Turn = record { file = o.at; counts = k.counts; lengths = k.lengths } in
     let whole : IsTaken a d o = place_is (d.place o.at) (file_name o.file) (length (content_of a o.file)) (k.name ∙ ap (λ (p : Place). p.name) unread) taken in
     record {
       all = h.all;
@@ -120,8 +141,9 @@ one_done c done later o a b d apart h k =
           ∙ ap (λ (l : List ℕ). a.written out.Rows ++ (check_lines c a (map pair_of done) ++ check_line c (pair_of o) l)) bytes
           ∙ ap (λ (l : List ℕ). a.written out.Rows ++ l) (sym (lines_more c a done o));
       notes = k.notes ∙ h.notes;
-      calls = h.calls ++ k.calls;
-      trace = k.trace ∙ ap (λ (t : List CallMade). t ++ k.calls) h.trace ∙ append_assoc a.trace h.calls k.calls;
+      turns = h.turns ++ turn ∷ [];
+      files = files_more done o h.turns turn h.files refl;
+      trace = trace_more a.trace b.trace d.trace done later o h.turns turn h.trace k.trace;
     }
   where
     zero_and : (n : ℕ) → 0 + n ≡ n
@@ -129,17 +151,25 @@ one_done c done later o a b d apart h k =
 
 -- ---- all files
 
-pub all_done : (c : Checks) (before now : ℕ → Bool) (all later : List Opened) (a b : Told) → map pair_of all ≡ numbered c → later ≡ [] → AreNew before now all → HasDone c all later a b → IsChecked c before now a b
-all_done c before now all later a b pairs none numbers h = record {
-  good = subst (All (IsGood c a)) pairs (All-map (IsGood c a) pair_of all h.good);
-  read = subst (All (IsRead before now a b)) pairs (All-map (IsRead before now a b) pair_of all read);
-  rows = h.rows ∙ ap (λ (ps : List (ℕ × DataFile)). a.written out.Rows ++ check_lines c a ps) pairs;
-  notes = h.notes;
-  kept = h.content;
-  opened = λ file was. still file was (now file) refl;
-  places = λ file was. h.others file (All-weaker (λ (x : Opened). before x.at ≡ false) (λ (x : Opened). x.at ≢ file) (λ x fresh same. no (sym was ∙ ap before (sym same) ∙ fresh)) all numbers.fresh)
-      (subst (All (λ (x : Opened). x.at ≢ file)) (sym none) (All-nil (λ (x : Opened). x.at ≢ file)));
-}
+pub all_done : (c : Checks) (before now : ℕ → Bool) (all later : List Opened) (a b : Told) → map pair_of all ≡ numbered c → later ≡ [] → AreNew before now all → HasDone c all later a b → Calling (IsChecked c before now) a b
+all_done c before now all later a b pairs none numbers h =
+    let calls : List CallMade = map opening_call (map opening_of all) ++ flat_map turn_calls h.turns in
+    record {
+      calls = calls;
+      trace = h.trace ∙ ap (λ (l : List Opened). a.trace ++ (map opening_call (map opening_of l) ++ flat_map turn_calls h.turns)) (ap (λ (l : List Opened). all ++ l) none ∙ append-nil all);
+      did = record {
+        order = subst (ReadsInOrder (names_of c)) (append-nil calls)
+            (turns_order c all h.turns [] [] pairs (sym h.files ∙ sym (append-nil (map (λ (t : Turn). t.file) h.turns))) (All-nil IsNoOpening) (inl refl));
+        good = subst (All (IsGood c a)) pairs (All-map (IsGood c a) pair_of all h.good);
+        read = subst (All (IsRead before now calls a b)) pairs (All-map (IsRead before now calls a b) pair_of all (read calls (opened_by_both (map opening_of all) h.turns)));
+        rows = h.rows ∙ ap (λ (ps : List (ℕ × DataFile)). a.written out.Rows ++ check_lines c a ps) pairs;
+        notes = h.notes;
+        kept = h.content;
+        opened = λ file was. still file was (now file) refl;
+        places = λ file was. h.others file (All-weaker (λ (x : Opened). before x.at ≡ false) (λ (x : Opened). x.at ≢ file) (λ x fresh same. no (sym was ∙ ap before (sym same) ∙ fresh)) all numbers.fresh)
+            (subst (All (λ (x : Opened). x.at ≢ file)) (sym none) (All-nil (λ (x : Opened). x.at ≢ file)));
+      };
+    }
   where
     no : true ≡ false → ⊥
     no h = cc
@@ -148,9 +178,19 @@ all_done c before now all later a b pairs none numbers h = record {
     still file was true is = is
     still file was false is = absurd (no (sym was ∙ numbers.kept file is))
 
-    one : (o : Opened) → IsGood c a (pair_of o) → IsTaken a b o → before o.at ≡ false → now o.at ≡ true → IsRead before now a b (pair_of o)
-    one o good whole fresh added = good_too (a.content (file_name o.file)) (λ (content : List ℕ). first_bad c (pair_of o) content ≡ None)
-        (λ (content : List ℕ). IsReadWhole (file_name o.file) content before now b) good (record { file = o.at; fresh = fresh; opened = added; place = whole })
+    opening : (calls : List CallMade) → opened_by calls ≡ map (λ o. o.1) (map opening_of all) → (k : ℕ) (d : Opened) → k < length all → slice_get (opened_by calls) (get_or all k d).part ≡ Some (get_or all k d).at
+    opening calls is k d short =
+        let part : (get_or all k d).part ≡ k = ap (λ (p : ℕ × DataFile). p.0) (pair_at c.files all k d pairs short).1 in
+        ap (slice_get (opened_by calls)) part ∙ ap (λ (l : List ℕ). slice_get l k) is ∙ at_place all k d short
 
-    read : All (λ o. IsRead before now a b (pair_of o)) all
-    read = λ k d short. one (get_or all k d) (h.good k d short) (h.whole k d short) (numbers.fresh k d short) (numbers.added k d short)
+    one : (calls : List CallMade) (o : Opened) → slice_get (opened_by calls) o.part ≡ Some o.at → IsGood c a (pair_of o) → IsTaken a b o → before o.at ≡ false → now o.at ≡ true → IsRead before now calls a b (pair_of o)
+    one calls o opening good whole fresh added = record {
+      at = o.at;
+      opening = opening;
+      fresh = fresh;
+      opened = added;
+      place = good_too (a.content (file_name o.file)) (λ (content : List ℕ). first_bad c (pair_of o) content ≡ None) (λ (content : List ℕ). b.place o.at ≡ record { name = file_name o.file; taken = length content }) good whole;
+    }
+
+    read : (calls : List CallMade) → opened_by calls ≡ map (λ o. o.1) (map opening_of all) → All (λ o. IsRead before now calls a b (pair_of o)) all
+    read calls is = λ k d short. one calls (get_or all k d) (opening calls is k d short) (h.good k d short) (h.whole k d short) (numbers.fresh k d short) (numbers.added k d short)

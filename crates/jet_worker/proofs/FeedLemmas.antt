@@ -1,23 +1,23 @@
 -- What the steps of a run do to the outside.
-use Rattle.std.proofs.Common.{◌≡◌, ℕ, ◌+◌, ◌≤◌, List, [], ◌∷◌, ◌++◌, length, take, drop, true, false, Option, Some, arith, ap, sym, ◌∙◌, subst, length-take-le, Err, append-nil, append_assoc, map, refl, take-append-drop, inl, inr, Result, Ok, OnOk}
+use Rattle.std.proofs.Common.{◌≡◌, ℕ, ◌+◌, ◌≤◌, List, [], ◌∷◌, ◌++◌, length, take, drop, true, false, Option, arith, ap, sym, ◌∙◌, subst, length-take-le, Err, append-nil, map, refl, take-append-drop, inl, inr, Result, Ok, OnOk}
 use Rattle.std.specs.Prelude.{IfErr}
-use Rattle.jet_file.specs.Outside.{Told, CallMade, Place, Missed, Tried, Opening, Reading, Writing, Read, Wrote, WhereTold, ReadsFile, Stays, rest_of}
+use Rattle.jet_file.specs.Outside.{Told, CallMade, Place, Missed, Tried, Reading, Writing, Read, Wrote, WhereTold, ReadsFile, Stays, rest_of}
 use Rattle.jet_file.specs.declared.outside.Out.{Out}
 use Rattle.jet_file.specs.declared.outside.Out.TheVariants as out
 use Rattle.jet_file.specs.declared.outside.OutFault.{OutFault}
 use Rattle.jet_file.specs.declared.outside.OutFault.TheVariants as fault
-use Rattle.jet_file.specs.Writing.{HasWritten, WritesFront}
+use Rattle.jet_file.specs.Writing.{HasWritten, WritesFront, missed}
 use Rattle.jet_lines.specs.LinesValue.{LinesValue}
-use Rattle.jet_worker.specs.Feeding.{Appends, FailsAt, FailsPiece, Flushes, OpensData, ReadsBytes, TakesPiece, ReadsPiece, WritesText, most_piece}
-use Rattle.jet_worker.specs.Stopping.{StopTold}
+use Rattle.jet_worker.specs.Feeding.{Appends, FailsAt, FailsPiece, Flushes, ReadsPiece, StopsReads, TakesPiece, WritesText, most_piece}
+use Rattle.jet_worker.specs.Stopping.{IsCallIn, IsWriting, LastIs, LastOf}
 use Rattle.jet_worker.specs.inner.Stopped.{stop_of, spot_of}
 use Rattle.jet_worker.specs.declared.stop.Call.{Call}
 use Rattle.jet_worker.specs.declared.stop.Call.TheVariants as call
 use Rattle.jet_worker.specs.declared.stop.Spot.{Spot}
 use Rattle.jet_worker.specs.declared.stop.Stop.{Stop}
 use Rattle.jet_worker.specs.declared.stop.Stop.TheVariants.{BadLine, Outside, NoMemory}
-use Rattle.jet_worker.proofs.GoesLemmas.{goes_then, goes_weaker}
-use Rattle.jet_worker.proofs.ReadLemmas.{rest_next}
+use Rattle.jet_file.proofs.GoesLemmas.{goes_then, goes_weaker}
+use Rattle.jet_file.proofs.ReadLemmas.{rest_next}
 
 -- ---- openings and reads
 
@@ -43,46 +43,6 @@ pub goes_unkept_piece : (spot : Spot) (file : ℕ) (buffer : List ℕ) (n : ℕ)
 goes_unkept_piece spot file buffer n (Ok done) old now fits most none h = tt
 goes_unkept_piece spot file buffer n (Err stop) old now fits most none h =
     goes_weaker (ReadsFile file buffer n) (FailsPiece spot file stop) (λ a b s. inr (none, buffer, n, omega (arith, fits, most), s)) old now h
-
--- an opening that did not do its work stops the run
-open_stops : (spot : Spot) (name : List ℕ) (f : OutFault) (a b : Told) → Stays (Opening name) f a b → OpensData spot name (Err (stop_of f call.Open spot)) a b
-open_stops spot name fault.Failed a b h = record {
-  told = λ name_of named. record {
-    before = [];
-    tried = Opening name;
-    trace = ap (λ (t : Told). t.trace) h ∙ ap (λ (l : List CallMade). l ++ Missed (Opening name) ∷ []) (sym (append-nil a.trace));
-    is = named;
-  };
-  content = ap (λ (t : Told). t.content) h;
-  written = ap (λ (t : Told). t.written) h;
-}
-open_stops spot name fault.NoMemory a b h = record { told = λ name_of named. tt; content = ap (λ (t : Told). t.content) h; written = ap (λ (t : Told). t.written) h }
-
-pub goes_open_stops : (spot : Spot) (name : List ℕ) (f : OutFault) (stop : Stop) (old now : Option Told) → stop ≡ stop_of f call.Open spot → WhereTold (Stays (Opening name) f) old now
-    → WhereTold (OpensData spot name (Err stop)) old now
-goes_open_stops spot name f stop old now is h =
-    subst (λ (s : Stop). WhereTold (OpensData spot name (Err s)) old now) (sym is)
-    (goes_weaker (Stays (Opening name) f) (OpensData spot name (Err (stop_of f call.Open spot))) (open_stops spot name f) old now h)
-
--- a read that did not do its work stops the run
-read_stops : (spot : Spot) (file : ℕ) (buffer : List ℕ) (f : OutFault) (a b : Told) → Stays (Reading file) f a b → ReadsBytes spot file buffer (Err (stop_of f call.Read spot)) a b
-read_stops spot file buffer fault.Failed a b h = record {
-  told = λ name_of named. record {
-    before = [];
-    tried = Reading file;
-    trace = ap (λ (t : Told). t.trace) h ∙ ap (λ (l : List CallMade). l ++ Missed (Reading file) ∷ []) (sym (append-nil a.trace));
-    is = named ∙ ap (λ (t : Told). Some (t.place file).name) (sym h);
-  };
-  content = ap (λ (t : Told). t.content) h;
-  written = ap (λ (t : Told). t.written) h;
-}
-read_stops spot file buffer fault.NoMemory a b h = record { told = λ name_of named. tt; content = ap (λ (t : Told). t.content) h; written = ap (λ (t : Told). t.written) h }
-
-pub goes_read_stops : (spot : Spot) (file : ℕ) (buffer : List ℕ) (f : OutFault) (stop : Stop) (old now : Option Told) → stop ≡ stop_of f call.Read spot → WhereTold (Stays (Reading file) f) old now
-    → WhereTold (ReadsBytes spot file buffer (Err stop)) old now
-goes_read_stops spot file buffer f stop old now is h =
-    subst (λ (s : Stop). WhereTold (ReadsBytes spot file buffer (Err s)) old now) (sym is)
-    (goes_weaker (Stays (Reading file) f) (ReadsBytes spot file buffer (Err (stop_of f call.Read spot))) (read_stops spot file buffer f) old now h)
 
 takes_piece : (file : ℕ) (buffer : List ℕ) (n : ℕ) (before after : LinesValue) (a b : Told) → n ≤ length buffer → length buffer ≤ most_piece → before.ended ≡ false
     → after ≡ record before { rest = before.rest ++ take n buffer; held = after.held } → ReadsFile file buffer n a b → TakesPiece file before after a b
@@ -112,14 +72,37 @@ goes_piece : (file : ℕ) (buffer : List ℕ) (n : ℕ) (before after : LinesVal
 goes_piece file buffer n before after old now fits most live is =
     goes_weaker (ReadsFile file buffer n) (TakesPiece file before after) (λ a b r. takes_piece file buffer n before after a b fits most live is r) old now
 
+-- the call that failed is a read of the file
+pub read_last : (spot : Spot) (file : ℕ) (stop : Stop) (last : List CallMade) → LastOf call.Read spot (Reading file) stop last → LastIs (IsCallIn spot file) stop last
+read_last spot file (BadLine part line why) last h = absurd h
+read_last spot file (Outside failed at) last h = (Reading file, h.2, subst (λ (k : Call). IsCallIn spot file k at (Reading file)) (sym h.0) (h.1, refl))
+read_last spot file NoMemory last h = h
+
+-- one read stopped
+read_stops : (spot : Spot) (file : ℕ) (stop : Stop) (a b : Told) → FailsAt call.Read spot (Reading file) stop a b → StopsReads spot file stop a b
+read_stops spot file stop a b h = record {
+  content = ap (λ (t : Told). t.content) h.same;
+  written = ap (λ (t : Told). t.written) h.same;
+  counts = [];
+  last = h.last;
+  fails = read_last spot file stop h.last h.is;
+  trace = ap (λ (t : Told). t.trace) h.same ∙ ap (λ (l : List CallMade). l ++ h.last) (sym (append-nil a.trace));
+}
+
+pub goes_read_stops : (spot : Spot) (file : ℕ) (stop : Stop) (old now : Option Told) → WhereTold (FailsAt call.Read spot (Reading file) stop) old now → WhereTold (StopsReads spot file stop) old now
+goes_read_stops spot file stop = goes_weaker (FailsAt call.Read spot (Reading file) stop) (StopsReads spot file stop) (read_stops spot file stop)
+
 -- the bytes were read, and no memory was found to keep them
 goes_unkept : (spot : Spot) (file : ℕ) (buffer : List ℕ) (n : ℕ) (before after : LinesValue) (stop : Stop) (old now : Option Told) → stop ≡ NoMemory → WhereTold (ReadsFile file buffer n) old now
     → WhereTold (ReadsPiece {T = Unit {0}} spot file before after (Err stop)) old now
 goes_unkept spot file buffer n before after stop old now is =
     goes_weaker (ReadsFile file buffer n) (ReadsPiece {T = Unit {0}} spot file before after (Err stop)) (λ a b r. record {
-      told = λ name_of named. subst (λ (s : Stop). StopTold name_of s a b) (sym is) tt;
       content = r.content;
       written = r.written;
+      counts = n ∷ [];
+      last = [];
+      fails = subst (λ (s : Stop). LastIs (IsCallIn spot file) s []) (sym is) refl;
+      trace = r.trace ∙ sym (append-nil (a.trace ++ Read file n ∷ []));
     }) old now
 
 -- the bytes were read, and put to the lines where memory was found
@@ -133,36 +116,23 @@ goes_kept spot file buffer n before after (Err stop) old now fits most live is n
 
 -- a write that did not do its work stops the run
 write_stops : (to : Out) (text : List ℕ) (f : OutFault) (a b : Told) → WritesFront to text f a b → WritesText {T = Unit {0}} to text (Err (stop_of f call.Write (spot_of to))) a b
-write_stops out.Rows text fault.Failed a b h = record {
+write_stops to text f a b h = record {
   front = take h.n text;
   rest = drop h.n text;
   parts = sym (take-append-drop h.n text);
-  told = λ name_of. record { before = map (Wrote out.Rows) h.wrote.lengths; tried = Writing out.Rows; trace = h.wrote.trace; is = tt };
   content = h.wrote.content;
   place = h.wrote.place;
   written = h.wrote.written;
   others = h.wrote.others;
+  lengths = h.wrote.lengths;
+  last = missed (Writing to) f;
+  fails = fails f;
+  trace = h.wrote.trace;
 }
-write_stops out.Notes text fault.Failed a b h = record {
-  front = take h.n text;
-  rest = drop h.n text;
-  parts = sym (take-append-drop h.n text);
-  told = λ name_of. record { before = map (Wrote out.Notes) h.wrote.lengths; tried = Writing out.Notes; trace = h.wrote.trace; is = tt };
-  content = h.wrote.content;
-  place = h.wrote.place;
-  written = h.wrote.written;
-  others = h.wrote.others;
-}
-write_stops to text fault.NoMemory a b h = record {
-  front = take h.n text;
-  rest = drop h.n text;
-  parts = sym (take-append-drop h.n text);
-  told = λ name_of. tt;
-  content = h.wrote.content;
-  place = h.wrote.place;
-  written = h.wrote.written;
-  others = h.wrote.others;
-}
+  where
+    fails : (f : OutFault) → LastOf call.Write (spot_of to) (Writing to) (stop_of f call.Write (spot_of to)) (missed (Writing to) f)
+    fails fault.Failed = (refl, refl, refl)
+    fails fault.NoMemory = refl
 
 pub goes_write_stops : (to : Out) (text : List ℕ) (f : OutFault) (stop : Stop) (spot : Spot) (old now : Option Told) → spot ≡ spot_of to → stop ≡ stop_of f call.Write spot
     → WhereTold (WritesFront to text f) old now → WhereTold (WritesText {T = Unit {0}} to text (Err stop)) old now
@@ -193,16 +163,16 @@ appends rows notes a b c h k = record {
 pub goes_appends : (rows notes : List ℕ) (old now next : Option Told) → WhereTold (HasWritten out.Notes notes []) old now → WhereTold (HasWritten out.Rows rows []) now next → WhereTold (Appends rows notes) old next
 goes_appends rows notes old now next = goes_then (HasWritten out.Notes notes []) (HasWritten out.Rows rows []) (Appends rows notes) (appends rows notes) old now next
 
--- a stop after more calls is one
-pub stop_later : (name_of : Spot → Option (List ℕ)) (stop : Stop) (more : List CallMade) (a b c : Told) → b.trace ≡ a.trace ++ more → StopTold name_of stop b c → StopTold name_of stop a c
-stop_later name_of (BadLine part line why) more a b c is h = tt
-stop_later name_of (Outside call file) more a b c is h = record {
-  before = more ++ h.before;
-  tried = h.tried;
-  trace = h.trace ∙ ap (λ (t : List CallMade). t ++ h.before ++ Missed h.tried ∷ []) is ∙ ap (λ (t : List CallMade). t ++ Missed h.tried ∷ []) (append_assoc a.trace more h.before);
-  is = h.is;
-}
-stop_later name_of NoMemory more a b c is h = tt
+-- the call that failed is a write
+pub write_last : (to : Out) (stop : Stop) (last : List CallMade) → LastOf call.Write (spot_of to) (Writing to) stop last → LastIs IsWriting stop last
+write_last to (BadLine part line why) last h = absurd h
+write_last to (Outside failed at) last h =
+    (Writing to, h.2, subst (λ (k : Call). IsWriting k at (Writing to)) (sym h.0) (subst (λ (s : Spot). IsWriting call.Write s (Writing to)) (sym h.1) (is to)))
+  where
+    is : (to : Out) → IsWriting call.Write (spot_of to) (Writing to)
+    is out.Rows = tt
+    is out.Notes = tt
+write_last to NoMemory last h = h
 
 -- the late lines were not all written
 pub goes_notes_stop : (rows notes : List ℕ) (stop : Stop) (old now : Option Told) → WhereTold (WritesText {T = Unit {0}} out.Notes notes (Err stop)) old now → WhereTold (Flushes {T = Unit {0}} rows notes (Err stop)) old now
@@ -215,11 +185,15 @@ goes_notes_stop rows notes stop old now =
       rows_parts = refl;
       notes_parts = h.parts;
       order = inr refl;
-      told = h.told;
       content = h.content;
       place = h.place;
       rows_written = h.others out.Rows rows_not_notes ∙ sym (append-nil (a.written out.Rows));
       notes_written = h.written;
+      note_lengths = h.lengths;
+      row_lengths = [];
+      last = h.last;
+      fails = write_last out.Notes stop h.last h.fails;
+      trace = h.trace ∙ ap (λ (l : List CallMade). l ++ h.last) (sym (append-nil (a.trace ++ map (Wrote out.Notes) h.lengths)));
     }) old now
 
 -- the late lines were written, and the rows were not all
@@ -234,9 +208,13 @@ goes_rows_stop rows notes stop old now next =
       rows_parts = k.parts;
       notes_parts = sym (append-nil notes);
       order = inl refl;
-      told = λ name_of. stop_later name_of stop (map (Wrote out.Notes) h.lengths) a b c (h.trace ∙ append-nil (a.trace ++ map (Wrote out.Notes) h.lengths)) (k.told name_of);
       content = k.content ∙ h.content;
       place = k.place ∙ h.place;
       rows_written = k.written ∙ ap (λ (s : List ℕ). s ++ k.front) (h.others out.Rows rows_not_notes);
       notes_written = k.others out.Notes notes_not_rows ∙ h.written;
+      note_lengths = h.lengths;
+      row_lengths = k.lengths;
+      last = k.last;
+      fails = write_last out.Rows stop k.last k.fails;
+      trace = k.trace ∙ ap (λ (t : List CallMade). t ++ map (Wrote out.Rows) k.lengths ++ k.last) (h.trace ∙ append-nil (a.trace ++ map (Wrote out.Notes) h.lengths));
     }) old now next

@@ -1,15 +1,15 @@
 pub mod AllLemmas
+pub mod CallLemmas
 pub mod CheckLemmas
 pub mod CountLemmas
 pub mod DoneLemmas
 pub mod FeedLemmas
 pub mod FileLemmas
 pub mod FilesLemmas
-pub mod GoesLemmas
 pub mod LoopLemmas
 pub mod OpenLemmas
+pub mod OrderLemmas
 pub mod PlanLemmas
-pub mod ReadLemmas
 pub mod SideLemmas
 pub mod SourceLemmas
 pub mod StopLemmas

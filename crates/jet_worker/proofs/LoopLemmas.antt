@@ -1,5 +1,6 @@
 -- The reading of one file to its end, step by step.
-use Rattle.std.proofs.Common.{◌≡◌, ℕ, ◌+◌, ◌-◌, ◌*◌, ◌<◌, ◌≤◌, Bool, true, false, cond, List, [], ◌∷◌, ◌++◌, length, Option, Some, refl, sym, ap, ◌∙◌, subst, arith, inl, inr, append-nil, append_assoc, length-append, length-take-le, take, get_or, nat_eq}
+use Rattle.std.proofs.Common.{◌≡◌, ℕ, ◌+◌, ◌-◌, ◌*◌, ◌<◌, ◌≤◌, Bool, true, false, cond, List, [], ◌∷◌, ◌++◌, length, Option, Some, refl, sym, ap, ◌∙◌, subst, arith, inl, inr, append-nil, append_assoc, length-append, length-take-le, take, get_or, map, nat_eq}
+use Rattle.std.proofs.lemmas.List.{map-append}
 use Rattle.std.specs.Str.Lines.{strip_carriage_return}
 use Rattle.jet_lines.specs.Cutting.{MayCome, NextIs}
 use Rattle.jet_lines.specs.Lines.{lines_of}
@@ -10,17 +11,16 @@ use Rattle.jet_lines.specs.declared.fault.LineFault.TheVariants as fault
 use Rattle.jet_file.specs.Outside.{Told, CallMade, Read, WhereTold, rest_of}
 use Rattle.jet_flow.specs.DataFiles.{DataFile}
 use Rattle.jet_worker.specs.CheckText.{Checks}
-use Rattle.jet_worker.specs.Feeding.{PutsPiece, StopsAt, TakesPiece}
+use Rattle.jet_worker.specs.Feeding.{PutsPiece, StopsReads, TakesPiece}
 use Rattle.jet_worker.specs.inner.FileChecks.{HasTaken, HasTallied, IsBadIn, Progress, StopsReading}
-use Rattle.jet_worker.specs.Stopping.{IsNoBadLine, StopTold}
+use Rattle.jet_worker.specs.Stopping.{IsCallIn, IsNoBadLine, LastIs}
 use Rattle.jet_worker.specs.inner.Tallying.{IsSmall, StopsAtLine, TakesLine, Tallied, next_fault}
 use Rattle.jet_worker.specs.declared.stop.Spot.{Spot}
 use Rattle.jet_worker.specs.declared.stop.Spot.TheVariants.{Part}
 use Rattle.jet_worker.specs.declared.stop.Stop.{Stop}
 use Rattle.jet_worker.specs.declared.stop.Stop.TheVariants.{BadLine, Outside, NoMemory}
 use Rattle.jet_worker.specs.declared.tally.Tally.{Tally}
-use Rattle.jet_worker.proofs.FeedLemmas.{stop_later}
-use Rattle.jet_worker.proofs.GoesLemmas.{goes_same, goes_then, goes_weaker}
+use Rattle.jet_file.proofs.GoesLemmas.{goes_same, goes_then, goes_weaker}
 use Rattle.jet_worker.proofs.TallyLemmas.{bad_is, long_fault, many_fault}
 
 -- what the loop over the lines of a file keeps
@@ -41,7 +41,7 @@ taken_starts at a = record {
   name = refl;
   taken = omega arith;
   others = λ other differs. refl;
-  calls = [];
+  counts = [];
   trace = sym (append-nil a.trace);
 }
 
@@ -94,8 +94,9 @@ takes at bytes piece before after a b d is h t =
       name = t.name ∙ h.name;
       taken = t.taken ∙ ap (λ (k : ℕ). k + length t.piece) h.taken ∙ omega (arith, ap length same, length-append bytes piece);
       others = λ other differs. t.others other differs ∙ h.others other differs;
-      calls = h.calls ++ Read at (length t.piece) ∷ [];
-      trace = t.trace ∙ ap (λ (l : List CallMade). l ++ Read at (length t.piece) ∷ []) h.trace ∙ append_assoc a.trace h.calls (Read at (length t.piece) ∷ []);
+      counts = h.counts ++ length t.piece ∷ [];
+      trace = t.trace ∙ ap (λ (l : List CallMade). l ++ Read at (length t.piece) ∷ []) h.trace ∙ append_assoc a.trace (map (Read at) h.counts) (Read at (length t.piece) ∷ [])
+          ∙ ap (λ (l : List CallMade). a.trace ++ l) (sym (map-append (Read at) h.counts (length t.piece ∷ [])));
     }
   where
     cancel : (xs ys zs : List ℕ) → xs ++ ys ≡ xs ++ zs → ys ≡ zs
@@ -179,16 +180,23 @@ less_left lines lines1 lines' more puts =
 
 -- a stop in a step that changed neither content nor outputs stops the reading
 stops : (c : Checks) (p : ℕ × DataFile) (at : ℕ) (bytes : List ℕ) (ended : Bool) (stop : Stop) (start now next : Told) → ((content more : List ℕ) → content ≡ bytes ++ more → MayCome ended more → IsBadIn c p content stop)
-    → HasTaken at bytes ended start now → StopsAt (Part p.0) (now.place at).name stop now next → StopsReading c p at stop start next
+    → HasTaken at bytes ended start now → StopsReads (Part p.0) at stop now next → StopsReading c p at stop start next
 stops c p at bytes ended stop start now next bad run s = record {
-  told = λ name_of named. stop_later name_of stop run.calls start now next run.trace (s.told name_of (named ∙ ap Some (sym run.name)));
   bad = bad (rest_of start at) (rest_of now at) run.rest run.end;
-  content = s.content ∙ run.content;
-  written = s.written ∙ run.written;
+  reads = record {
+    content = s.content ∙ run.content;
+    written = s.written ∙ run.written;
+    counts = run.counts ++ s.counts;
+    last = s.last;
+    fails = s.fails;
+    trace = s.trace ∙ ap (λ (l : List CallMade). l ++ map (Read at) s.counts ++ s.last) run.trace ∙ ap (λ (l : List CallMade). l ++ s.last)
+        (append_assoc start.trace (map (Read at) run.counts) (map (Read at) s.counts) ∙ ap (λ (l : List CallMade). start.trace ++ l) (sym (map-append (Read at) run.counts s.counts)));
+  };
 }
 
-here : (spot : Spot) (name : List ℕ) (stop : Stop) (a : Told) → ((name_of : Spot → Option (List ℕ)) → StopTold name_of stop a a) → StopsAt spot name stop a a
-here spot name stop a h = record { told = λ name_of named. h name_of; content = refl; written = refl }
+-- no call was made, and none failed
+here : (spot : Spot) (at : ℕ) (stop : Stop) (a : Told) → LastIs (IsCallIn spot at) stop [] → StopsReads spot at stop a a
+here spot at stop a h = record { content = refl; written = refl; counts = []; last = []; fails = h; trace = sym (append-nil (a.trace ++ []) ∙ append-nil a.trace) }
 
 module _ (c : Checks) (p : ℕ × DataFile) (at : ℕ) (start now : Option Told) (lines : LinesValue) (tally : Tally) (h : Progress c p at start now lines tally) where
   bad_at : (content more : List ℕ) (line : List ℕ) (others : List (List ℕ)) (f : LineFault) (part n : ℕ) → content ≡ h.bytes ++ more → MayCome lines.ended more
@@ -218,7 +226,7 @@ module _ (c : Checks) (p : ℕ × DataFile) (at : ℕ) (start now : Option Told)
   pub stops_at_cut : (n part : ℕ) (f : LineFault) (lines' : LinesValue) (bad_part : part ≡ p.0) → NextIs lines (cut.Bad n f) lines' → WhereTold (StopsReading c p at (BadLine part n f)) start now
   stops_at_cut n part f lines' part_is next =
       goes_weaker (HasTaken at h.bytes lines.ended) (StopsReading c p at (BadLine part n f))
-      (λ a b r. stops c p at h.bytes lines.ended (BadLine part n f) a b b (bad_cut n part f lines' part_is next) r (here (Part p.0) (b.place at).name (BadLine part n f) b (λ name_of. tt))) start now h.told
+      (λ a b r. stops c p at h.bytes lines.ended (BadLine part n f) a b b (bad_cut n part f lines' part_is next) r (here (Part p.0) at (BadLine part n f) b refl)) start now h.told
 
   bad_read : (n part : ℕ) (lines' : LinesValue) (stop : Stop) → part ≡ p.0 → NextIs lines (cut.Line n) lines' → StopsAtLine part n lines'.line tally stop
       → (content more : List ℕ) → content ≡ h.bytes ++ more → MayCome lines.ended more → IsBadIn c p content stop
@@ -229,26 +237,26 @@ module _ (c : Checks) (p : ℕ × DataFile) (at : ℕ) (start now : Option Told)
   bad_read n part lines' (Outside call spot) part_is next s content more is may = tt
   bad_read n part lines' NoMemory part_is next s content more is may = tt
 
-  line_told : (part n : ℕ) (line : List ℕ) (stop : Stop) (a : Told) → StopsAtLine part n line tally stop → (name_of : Spot → Option (List ℕ)) → StopTold name_of stop a a
-  line_told part n line (BadLine q k why) a s name_of = tt
-  line_told part n line (Outside call spot) a s name_of = absurd s
-  line_told part n line NoMemory a s name_of = tt
+  line_told : (part n : ℕ) (line : List ℕ) (stop : Stop) → StopsAtLine part n line tally stop → LastIs (IsCallIn (Part p.0) at) stop []
+  line_told part n line (BadLine q k why) s = refl
+  line_told part n line (Outside call spot) s = absurd s
+  line_told part n line NoMemory s = refl
 
   pub stops_at_line : (n part : ℕ) (line : List ℕ) (lines' : LinesValue) (stop : Stop) → part ≡ p.0 → NextIs lines (cut.Line n) lines' → line ≡ lines'.line → StopsAtLine part n line tally stop
       → WhereTold (StopsReading c p at stop) start now
   stops_at_line n part line lines' stop part_is next same s =
       goes_weaker (HasTaken at h.bytes lines.ended) (StopsReading c p at stop)
       (λ a b r. stops c p at h.bytes lines.ended stop a b b (bad_read n part lines' stop part_is next (subst (λ (l : List ℕ). StopsAtLine part n l tally stop) same s)) r
-      (here (Part p.0) (b.place at).name stop b (line_told part n line stop b s))) start now h.told
+      (here (Part p.0) at stop b (line_told part n line stop s))) start now h.told
 
   none_bad : (stop : Stop) → IsNoBadLine stop → (content : List ℕ) → IsBadIn c p content stop
   none_bad (BadLine part line why) k content = absurd k
   none_bad (Outside call spot) k content = tt
   none_bad NoMemory k content = tt
 
-  pub stops_at_read : (stop : Stop) (next : Option Told) → IsNoBadLine stop → WhereTold (λ a b. StopsAt (Part p.0) (a.place at).name stop a b) now next → WhereTold (StopsReading c p at stop) start next
+  pub stops_at_read : (stop : Stop) (next : Option Told) → IsNoBadLine stop → WhereTold (StopsReads (Part p.0) at stop) now next → WhereTold (StopsReading c p at stop) start next
   stops_at_read stop next never told =
-      goes_then (HasTaken at h.bytes lines.ended) (λ a b. StopsAt (Part p.0) (a.place at).name stop a b) (StopsReading c p at stop)
+      goes_then (HasTaken at h.bytes lines.ended) (StopsReads (Part p.0) at stop) (StopsReading c p at stop)
       (λ a b d r s. stops c p at h.bytes lines.ended stop a b d (λ content more is may. none_bad stop never content) r s) start now next h.told told
 
   pub tallied_at_end : (count : ℕ) (lines' : LinesValue) → NextIs lines cut.End lines' → count ≡ lines.number → WhereTold (HasTallied c p at count tally) start now

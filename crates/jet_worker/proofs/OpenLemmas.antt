@@ -1,22 +1,25 @@
 -- The opening of all files, one after another.
 use Rattle.std.proofs.Common.{◌≡◌, ◌≢◌, ℕ, zero, suc, ◌+◌, ◌<◌, ◌≤◌, Bool, true, false, List, [], ◌∷◌, ◌++◌, map, length, take, get_or, Option, Some, None, Result, Ok, Err, All, refl, sym, ap, ◌∙◌, subst, arith, append-nil, append_assoc}
-use Rattle.std.specs.Prelude.{IsSome, MatchResult, Any, option_map, slice_get}
+use Rattle.std.specs.Prelude.{IsSome, IsSomeAnd, MatchResult, Any, slice_get}
 use Rattle.std.specs.List.{enumerate_from}
 use Rattle.std.proofs.lemmas.List.{get_or_default, get_or-map, length-map, map-append}
+use Rattle.std.proofs.lemmas.List.FromFn.{get_or-enumerate_from, length-enumerate_from}
 use Rattle.std.proofs.lemmas.List.Elements.{All-append, All-nil, All-cons, All-head, All-tail, All-weaker}
-use Rattle.jet_file.specs.Outside.{AddsNumber, CallMade, WhereTold, LacksFile, Opened as OpenedEntry, OpensFile, Told}
+use Rattle.jet_file.specs.Outside.{AddsNumber, CallMade, WhereTold, LacksFile, Opened as OpenedEntry, Opening, OpensFile, Told}
 use Rattle.jet_flow.specs.DataFiles.{DataFile, SideFile, file_name}
 use Rattle.jet_worker.specs.CheckText.{Checks}
-use Rattle.jet_worker.specs.Checked.{LacksSome, name_in}
-use Rattle.jet_worker.specs.Feeding.{StopsAt}
-use Rattle.jet_worker.specs.inner.Opening.{AreApart, AreNew, HasOpened, IsUnread, Opened, StopsOpening, file_in, pair_of}
-use Rattle.jet_worker.specs.Stopping.{CauseOfStop, OpenOutcome, StopTold}
+use Rattle.jet_worker.specs.Calls.{opening_call}
+use Rattle.jet_worker.specs.Checked.{LacksSome}
+use Rattle.jet_worker.specs.Feeding.{FailsAt}
+use Rattle.jet_worker.specs.inner.Opening.{AreApart, AreNew, HasOpened, IsNextOpening, IsUnread, Opened, StopsOpening, file_in, opening_of, pair_of}
+use Rattle.jet_worker.specs.Stopping.{CauseOfStop, LastIs, LastOf, OpenOutcome}
 use Rattle.jet_worker.specs.declared.files.DataFile.{DataFile as RustFile}
+use Rattle.jet_worker.specs.declared.stop.Call.TheVariants.{Open}
 use Rattle.jet_worker.specs.declared.stop.Spot.TheVariants.{Part}
 use Rattle.jet_worker.specs.declared.stop.Stop.{Stop}
-use Rattle.jet_worker.specs.declared.stop.Stop.TheVariants.{NoMemory}
-use Rattle.jet_worker.proofs.FeedLemmas.{stop_later}
-use Rattle.jet_worker.proofs.GoesLemmas.{goes_same, goes_then}
+use Rattle.jet_worker.specs.declared.stop.Stop.TheVariants.{BadLine, Outside, NoMemory}
+use Rattle.jet_file.proofs.GoesLemmas.{goes_same, goes_then, goes_weaker}
+use Rattle.jet_worker.proofs.OrderLemmas.{length_front}
 
 -- what the loop over the files keeps: the first n of them were opened
 pub record SoFar {S : Type 0} (told : S → Option Told) (opened : S → ℕ → Bool) (steady : S → Bool) (faults : S → ℕ) (files : List DataFile) (n : ℕ) (all : List Opened) (start now : S) : Type 0 where
@@ -33,7 +36,6 @@ opens_none a = record {
   others = λ n h. refl;
   content = refl;
   written = refl;
-  calls = [];
   trace = sym (append-nil a.trace);
 }
 
@@ -97,8 +99,9 @@ opens_more all o a b c others h k = record {
       ∙ h.others n (all_left (λ (x : Opened). x.at ≢ n) all (o ∷ []) apart);
   content = k.content ∙ h.content;
   written = k.written ∙ h.written;
-  calls = h.calls ++ OpenedEntry (file_name o.file) o.at ∷ [];
-  trace = k.trace ∙ ap (λ (t : List CallMade). t ++ OpenedEntry (file_name o.file) o.at ∷ []) h.trace ∙ append_assoc a.trace h.calls (OpenedEntry (file_name o.file) o.at ∷ []);
+  trace = k.trace ∙ ap (λ (t : List CallMade). t ++ OpenedEntry (file_name o.file) o.at ∷ []) h.trace ∙ append_assoc a.trace (map opening_call (map opening_of all)) (OpenedEntry (file_name o.file) o.at ∷ [])
+      ∙ ap (λ (l : List CallMade). a.trace ++ l)
+      (sym (ap (map opening_call) (map-append opening_of all (o ∷ [])) ∙ map-append opening_call (map opening_of all) (opening_of o ∷ [])));
 }
 
 -- ---- the files of the program
@@ -151,33 +154,68 @@ file_more told opened steady faults files n all start now next o d h short part 
     one_more : (k : ℕ) → suc k ≡ k + 1
     one_more k = omega arith
 
--- ---- stops
+-- ---- places
+
+pub pair_at : (files : List DataFile) (all : List Opened) (n : ℕ) (d : Opened) → map pair_of all ≡ enumerate_from 0 files → n < length all → (n < length files) × (pair_of (get_or all n d) ≡ (n, get_or files n d.file))
+pair_at files all n d pairs short =
+    let count : length all ≡ length files = sym (length-map all pair_of) ∙ ap length pairs ∙ length-enumerate_from 0 files in
+    let within : n < length files = omega (arith, count, short) in
+    let none : 0 + n ≡ n = omega arith in (
+      within,
+      sym (get_or-map pair_of all n d (pair_of d) short) ∙ ap (λ (l : List (ℕ × DataFile)). get_or l n (pair_of d)) pairs ∙ get_or-enumerate_from 0 files n (pair_of d) within
+          ∙ ap (λ (k : ℕ). (k, get_or files n d.file)) none,
+    )
 
 pub get_is : (files : List DataFile) (n : ℕ) (f d : DataFile) → n < length files → f ≡ get_or files n d → slice_get files n ≡ Some f
 get_is [] n f d short is = absurd (omega (arith, short))
 get_is (g ∷ files) zero f d short is = ap Some (sym is)
 get_is (g ∷ files) (suc n) f d short is = get_is files n f d (omega (arith, short)) is
 
+-- ---- stops
+
+-- the call that failed is the opening of the file of this number
+open_last : (c : Checks) (n : ℕ) (f : DataFile) (stop : Stop) (last : List CallMade) → slice_get c.files n ≡ Some f → LastOf Open (Part n) (Opening (file_name f)) stop last → LastIs (IsNextOpening c n) stop last
+open_last c n f (BadLine part line why) last is h = absurd h
+open_last c n f (Outside call spot) last is h =
+    (Opening (file_name f), h.2, (h.0, h.1, subst (λ (o : Option DataFile). IsSomeAnd o (λ file. Opening (file_name f) ≡ Opening (file_name file))) (sym is) refl))
+open_last c n f NoMemory last is h = h
+
 -- a file could not be opened
-pub stops_at_file : (c : Checks) (files : List DataFile) (n part : ℕ) (f d : DataFile) (all : List Opened) (stop : Stop) (start now next : Option Told) → c.files ≡ files → n < length files → part ≡ n → f ≡ get_or files n d
-    → WhereTold (HasOpened all) start now → WhereTold (StopsAt (Part part) (file_name f) stop) now next → WhereTold (StopsOpening c stop) start next
-stops_at_file c files n part f d all stop start now next same short part_is is opened stopped =
-    let at : slice_get c.files part ≡ Some f = ap (λ (l : List DataFile). slice_get l part) same ∙ ap (slice_get files) part_is ∙ get_is files n f d short is in
-    goes_then (HasOpened all) (StopsAt (Part part) (file_name f) stop) (StopsOpening c stop) (λ a b e h s. record {
-      told = stop_later (name_in c) stop h.calls a b e h.trace (s.told (name_in c) (ap (option_map file_name) at));
-      content = s.content ∙ h.content;
-      written = s.written ∙ h.written;
-    }) start now next opened stopped
+pub stops_at_file : {S : Type 0} (told : S → Option Told) (opened : S → ℕ → Bool) (steady : S → Bool) (faults : S → ℕ) (c : Checks) (files : List DataFile) (n part : ℕ) (f d : DataFile) (all : List Opened) (stop : Stop) (start now next : S)
+    → c.files ≡ files → n < length files → part ≡ n → f ≡ get_or files n d → SoFar told opened steady faults files n all start now
+    → WhereTold (FailsAt Open (Part part) (Opening (file_name f)) stop) (told now) (told next) → WhereTold (StopsOpening c stop) (told start) (told next)
+stops_at_file told opened steady faults c files n part f d all stop start now next same short part_is is so_far stopped =
+    let count : length all ≡ n = length_front n files all so_far.pairs (omega (arith, short)) in
+    let at : slice_get c.files (length all) ≡ Some f = ap (λ (l : List DataFile). slice_get l (length all)) same ∙ ap (slice_get files) count ∙ get_is files n f d short is in
+    let spot : part ≡ length all = part_is ∙ sym count in
+    let pairs : map pair_of all ≡ take (length all) (enumerate_from 0 c.files) =
+    so_far.pairs ∙ ap (λ (l : List DataFile). take n (enumerate_from 0 l)) (sym same) ∙ ap (λ (k : ℕ). take k (enumerate_from 0 c.files)) (sym count) in
+    goes_then (HasOpened all) (FailsAt Open (Part part) (Opening (file_name f)) stop) (StopsOpening c stop) (λ a b e h s. record {
+      opened = all;
+      pairs = pairs;
+      content = ap (λ (t : Told). t.content) s.same ∙ h.content;
+      written = ap (λ (t : Told). t.written) s.same ∙ h.written;
+      last = s.last;
+      fails = open_last c (length all) f stop s.last at (subst (λ (k : ℕ). LastOf Open (Part k) (Opening (file_name f)) stop s.last) spot s.is);
+      trace = ap (λ (t : Told). t.trace) s.same ∙ ap (λ (l : List CallMade). l ++ s.last) h.trace;
+    }) (told start) (told now) (told next) so_far.told_so stopped
 
 -- no memory was found to keep what was opened
-pub stops_at_keep : (c : Checks) (f : List ℕ) (at : ℕ) (all : List Opened) (stop : Stop) (start now next : Option Told) → stop ≡ NoMemory
-    → WhereTold (HasOpened all) start now → WhereTold (OpensFile f at) now next → WhereTold (StopsOpening c stop) start next
-stops_at_keep c f at all stop start now next is opened opens =
-    goes_then (HasOpened all) (OpensFile f at) (StopsOpening c stop) (λ a b e h s. record {
-      told = subst (λ (x : Stop). StopTold (name_in c) x a e) (sym is) tt;
-      content = s.content ∙ h.content;
-      written = s.written ∙ h.written;
-    }) start now next opened opens
+pub stops_at_keep : {S : Type 0} (told : S → Option Told) (opened : S → ℕ → Bool) (steady : S → Bool) (faults : S → ℕ) (c : Checks) (files : List DataFile) (n : ℕ) (all : List Opened) (stop : Stop) (start now : S)
+    → c.files ≡ files → n ≤ length files → stop ≡ NoMemory → SoFar told opened steady faults files n all start now → WhereTold (StopsOpening c stop) (told start) (told now)
+stops_at_keep told opened steady faults c files n all stop start now same within is so_far =
+    let count : length all ≡ n = length_front n files all so_far.pairs within in
+    let pairs : map pair_of all ≡ take (length all) (enumerate_from 0 c.files) =
+    so_far.pairs ∙ ap (λ (l : List DataFile). take n (enumerate_from 0 l)) (sym same) ∙ ap (λ (k : ℕ). take k (enumerate_from 0 c.files)) (sym count) in
+    goes_weaker (HasOpened all) (StopsOpening c stop) (λ a b h. record {
+      opened = all;
+      pairs = pairs;
+      content = h.content;
+      written = h.written;
+      last = [];
+      fails = subst (λ (s : Stop). LastIs (IsNextOpening c (length all)) s []) (sym is) refl;
+      trace = h.trace ∙ sym (append-nil (a.trace ++ map opening_call (map opening_of all)));
+    }) (told start) (told now) so_far.told_so
 
 -- the file that could not be opened is not there
 pub lacks_file : (files : List DataFile) (n : ℕ) (f d : DataFile) (all : List Opened) (start now : Option Told) → n < length files → f ≡ get_or files n d → WhereTold (HasOpened all) start now

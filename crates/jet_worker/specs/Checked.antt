@@ -1,19 +1,16 @@
 -- What the answers of a check of a job's files say.
-use Rattle.std.specs.Prelude.{◌≡◌, ◌⊎◌, ℕ, Bool, true, pos, List, [], ◌++◌, take, flat_map, slice_get, All, Any, Option, Some, None, option_map, IsSome, IsSomeAnd, ⊤}
+use Rattle.std.specs.Prelude.{◌≡◌, ◌⊎◌, ℕ, ◌+◌, Bool, true, false, pos, List, [], ◌++◌, length, map, take, flat_map, slice_get, All, Any, Option, Some, None, IsSome, IsSomeAnd, ⊤}
 use Rattle.std.specs.List.{enumerate_from}
 use Rattle.std.specs.Option.{unwrap_or}
 use Rattle.jet_lines.specs.declared.fault.LineFault.{LineFault}
-use Rattle.jet_file.specs.Headline.{IsReadWhole}
-use Rattle.jet_file.specs.Outside.{Told}
+use Rattle.jet_file.specs.Outside.{Told, CallMade}
 use Rattle.jet_file.specs.declared.outside.Out.TheVariants as out
 use Rattle.jet_plan.specs.declared.dag.Dag.{Dag}
 use Rattle.jet_plan.specs.declared.settings.Settings.{Settings}
 use Rattle.jet_flow.specs.DataFiles.{DataFile, data_files, file_name}
 use Rattle.jet_flow.specs.Grain.{IsGrain}
+use Rattle.jet_worker.specs.Calls.{EndsFailed, ReadsInOrder, Turn, opened_by, part_place}
 use Rattle.jet_worker.specs.CheckText.{Checks, check_line, first_bad}
-use Rattle.jet_worker.specs.Stopping.{EndsFailed}
-use Rattle.jet_worker.specs.declared.stop.Spot.{Spot}
-use Rattle.jet_worker.specs.declared.stop.Spot.TheVariants.{Part}
 use Rattle.jet_worker.specs.declared.stop.Stop.{Stop}
 use Rattle.jet_worker.specs.declared.stop.Stop.TheVariants.{BadLine, Outside, NoMemory}
 
@@ -27,10 +24,9 @@ pub record IsCheckOf (dag : Dag) (settings : Settings) (c : Checks) : Type 0 whe
 abbrev pub numbered : Checks → List (ℕ × DataFile)
 numbered c = enumerate_from 0 c.files
 
--- the name of the data file of a number
-abbrev pub name_in : Checks → Spot → Option (List ℕ)
-name_in c (Part p) = option_map file_name (slice_get c.files p)
-name_in c spot = None
+-- the names of the files
+abbrev pub names_of : Checks → List (List ℕ)
+names_of c = map file_name c.files
 
 -- the bytes of a file, none where it is not there
 abbrev pub content_of : Told → DataFile → List ℕ
@@ -48,14 +44,19 @@ IsGood c told p = IsSomeAnd (told.content (file_name p.1)) (λ content. first_ba
 abbrev pub AreThere : Checks → Told → Type 0
 AreThere c told = All (λ file. IsSome (told.content (file_name file))) c.files
 
--- the file was opened by this call and read to its end
-abbrev pub IsRead : (ℕ → Bool) → (ℕ → Bool) → Told → Told → ℕ × DataFile → Type 0
-IsRead before now old new p = IsSomeAnd (old.content (file_name p.1)) (λ content. IsReadWhole (file_name p.1) content before now new)
+-- the file that these calls opened in the place of its number was new, and was read to its end
+pub record IsRead (before now : ℕ → Bool) (calls : List CallMade) (old new : Told) (p : ℕ × DataFile) : Type 0 where
+  pub at : ℕ
+  pub opening : slice_get (opened_by calls) p.0 ≡ Some at
+  pub fresh : before at ≡ false
+  pub opened : now at ≡ true
+  pub place : IsSomeAnd (old.content (file_name p.1)) (λ content. new.place at ≡ record { name = file_name p.1; taken = length content })
 
 -- all files were read and are good, and the whole check text was written, and no other byte
-pub record IsChecked (c : Checks) (before now : ℕ → Bool) (old new : Told) : Type 0 where
+pub record IsChecked (c : Checks) (before now : ℕ → Bool) (calls : List CallMade) (old new : Told) : Type 0 where
+  pub order : ReadsInOrder (names_of c) calls
   pub good : All (IsGood c old) (numbered c)
-  pub read : All (IsRead before now old new) (numbered c)
+  pub read : All (IsRead before now calls old new) (numbered c)
   pub rows : new.written out.Rows ≡ old.written out.Rows ++ check_lines c old (numbered c)
   pub notes : new.written out.Notes ≡ old.written out.Notes
   pub kept : new.content ≡ old.content
@@ -87,11 +88,17 @@ pub record IsBegun (c : Checks) (old new : Told) : Type 0 where
   pub notes : new.written out.Notes ≡ old.written out.Notes
   pub kept : new.content ≡ old.content
 
--- why a check stops, and what it has written then
-abbrev pub CheckStops : Checks → Stop → Told → Told → Type 0
-CheckStops c (BadLine part line why) old new = IsBadLine c part line why old new
-CheckStops c (Outside call spot) old new = EndsFailed (name_in c) call spot old new × IsBegun c old new
-CheckStops c NoMemory old new = IsBegun c old new
+-- Why a check stops, and what it has written then. A bad line is one of the file whose turn was the last. A call that
+-- failed is named by the number of its file, which is the place of its opening.
+abbrev pub WhyStopped : Checks → Stop → List CallMade → List Turn → Told → Told → Type 0
+WhyStopped c (BadLine part line why) calls turns old new = (length turns ≡ part + 1) × IsBadLine c part line why old new
+WhyStopped c (Outside call spot) calls turns old new = EndsFailed part_place call spot calls × IsBegun c old new
+WhyStopped c NoMemory calls turns old new = IsBegun c old new
+
+-- a check stops, and its calls were in order
+pub record CheckStops (c : Checks) (stop : Stop) (calls : List CallMade) (old new : Told) : Type 0 where
+  pub order : ReadsInOrder (names_of c) calls
+  pub why : WhyStopped c stop calls order.turns old new
 
 -- some file is not there, where that is told
 abbrev pub LacksSome : List DataFile → Option Told → Type 0

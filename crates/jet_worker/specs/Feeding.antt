@@ -1,22 +1,17 @@
 -- What the steps of a run do on the outside.
-use Rattle.std.specs.Prelude.{◌≡◌, ◌≢◌, ℕ, ◌+◌, ◌<◌, ◌≤◌, Bool, true, List, [], ◌∷◌, ◌++◌, length, map, sum, Option, Some, Result, Ok, Err, ◌⊎◌}
-use Rattle.jet_file.specs.Outside.{Told, CallMade, Tried, Reading, Wrote, Read, OpensFile, ReadsFile, AddsNumber, rest_of}
+use Rattle.std.specs.Prelude.{◌≡◌, ◌≢◌, ℕ, ◌+◌, ◌<◌, ◌≤◌, Bool, true, List, [], ◌∷◌, ◌++◌, length, map, sum, Result, Ok, Err, ◌⊎◌}
+use Rattle.jet_file.specs.Outside.{Told, CallMade, Tried, Opening, Reading, Writing, Wrote, Read, OpensFile, ReadsFile, AddsNumber, rest_of}
 use Rattle.jet_file.specs.Writing.{HasWritten}
 use Rattle.jet_file.specs.declared.outside.Out.{Out}
 use Rattle.jet_file.specs.declared.outside.Out.TheVariants.{Rows, Notes}
 use Rattle.jet_lines.specs.LinesValue.{LinesValue}
-use Rattle.jet_worker.specs.Stopping.{LastOf, StopTold}
+use Rattle.jet_worker.specs.inner.Stopped.{spot_of}
+use Rattle.jet_worker.specs.Stopping.{IsCallIn, IsWriting, LastIs, LastOf}
 use Rattle.jet_worker.specs.declared.stop.Call.{Call}
 use Rattle.jet_worker.specs.declared.stop.Call.TheVariants as call
 use Rattle.jet_worker.specs.declared.stop.Spot.{Spot}
 use Rattle.jet_worker.specs.declared.stop.Stop.{Stop}
 use Rattle.jet_worker.specs.declared.stop.Stop.TheVariants.{NoMemory}
-
--- a step on the file of this name stopped: the call that failed is the one named, and no content or output changed
-pub record StopsAt (spot : Spot) (name : List ℕ) (stop : Stop) (old new : Told) : Type 0 where
-  pub told : (name_of : Spot → Option (List ℕ)) → name_of spot ≡ Some name → StopTold name_of stop old new
-  pub content : new.content ≡ old.content
-  pub written : new.written ≡ old.written
 
 -- a step of one call stopped: that call came alone where it failed, and all else is as it was
 pub record FailsAt (call : Call) (spot : Spot) (tried : Tried) (stop : Stop) (old new : Told) : Type 0 where
@@ -29,11 +24,14 @@ pub record StopsWriting (to : Out) (text : List ℕ) (stop : Stop) (old new : To
   pub front : List ℕ
   pub rest : List ℕ
   pub parts : text ≡ front ++ rest
-  pub told : (name_of : Spot → Option (List ℕ)) → StopTold name_of stop old new
   pub content : new.content ≡ old.content
   pub place : new.place ≡ old.place
   pub written : new.written to ≡ old.written to ++ front
   pub others : (other : Out) → other ≢ to → new.written other ≡ old.written other
+  pub lengths : List ℕ
+  pub last : List CallMade
+  pub fails : LastOf call.Write (spot_of to) (Writing to) stop last
+  pub trace : new.trace ≡ old.trace ++ map (Wrote to) lengths ++ last
 
 -- all of the text was appended to the output; or the writing stopped
 abbrev pub WritesText : {T : Type 0} → Out → List ℕ → Result T Stop → Told → Told → Type 0
@@ -61,11 +59,15 @@ pub record StopsAppending (rows notes : List ℕ) (stop : Stop) (old new : Told)
   pub rows_parts : rows ≡ rows_front ++ rows_rest
   pub notes_parts : notes ≡ notes_front ++ notes_rest
   pub order : (notes_rest ≡ []) ⊎ (rows_front ≡ [])
-  pub told : (name_of : Spot → Option (List ℕ)) → StopTold name_of stop old new
   pub content : new.content ≡ old.content
   pub place : new.place ≡ old.place
   pub rows_written : new.written Rows ≡ old.written Rows ++ rows_front
   pub notes_written : new.written Notes ≡ old.written Notes ++ notes_front
+  pub note_lengths : List ℕ
+  pub row_lengths : List ℕ
+  pub last : List CallMade
+  pub fails : LastIs IsWriting stop last
+  pub trace : new.trace ≡ old.trace ++ map (Wrote Notes) note_lengths ++ map (Wrote Rows) row_lengths ++ last
 
 -- all late lines and rows were appended; or the writing stopped
 abbrev pub Flushes : {T : Type 0} → List ℕ → List ℕ → Result T Stop → Told → Told → Type 0
@@ -94,10 +96,19 @@ pub record TakesPiece (file : ℕ) (before after : LinesValue) (old new : Told) 
 abbrev pub PutsPiece : LinesValue → LinesValue → Type 0
 PutsPiece before after = ((piece : List ℕ) × (0 < length piece) × (length piece ≤ most_piece) × (after ≡ record before { rest = before.rest ++ piece; held = after.held })) ⊎ (after ≡ record before { ended = true })
 
+-- the reading of an opened file stopped after reads of these counts, and nothing was written
+pub record StopsReads (spot : Spot) (file : ℕ) (stop : Stop) (old new : Told) : Type 0 where
+  pub content : new.content ≡ old.content
+  pub written : new.written ≡ old.written
+  pub counts : List ℕ
+  pub last : List CallMade
+  pub fails : LastIs (IsCallIn spot file) stop last
+  pub trace : new.trace ≡ old.trace ++ map (Read file) counts ++ last
+
 -- the next bytes of the file are at the front of the buffer; or the reading stopped
 abbrev pub ReadsBytes : Spot → ℕ → List ℕ → Result ℕ Stop → Told → Told → Type 0
 ReadsBytes spot file buffer (Ok n) old new = ReadsFile file buffer n old new
-ReadsBytes spot file buffer (Err stop) old new = StopsAt spot (old.place file).name stop old new
+ReadsBytes spot file buffer (Err stop) old new = FailsAt call.Read spot (Reading file) stop old new
 
 -- the read came alone and failed, or want of memory came before it; or it read a piece that no memory was found to keep
 abbrev pub FailsPiece : Spot → ℕ → Stop → Told → Told → Type 0
@@ -107,12 +118,12 @@ FailsPiece spot file stop old new = FailsAt call.Read spot (Reading file) stop o
 -- the next bytes of the file were put to its lines; or the reading stopped
 abbrev pub ReadsPiece : {T : Type 0} → Spot → ℕ → LinesValue → LinesValue → Result T Stop → Told → Told → Type 0
 ReadsPiece spot file before after (Ok done) old new = TakesPiece file before after old new
-ReadsPiece spot file before after (Err stop) old new = StopsAt spot (old.place file).name stop old new
+ReadsPiece spot file before after (Err stop) old new = StopsReads spot file stop old new
 
 -- the file was opened; or the opening stopped
 abbrev pub OpensData : Spot → List ℕ → Result ℕ Stop → Told → Told → Type 0
 OpensData spot name (Ok file) old new = OpensFile name file old new
-OpensData spot name (Err stop) old new = StopsAt spot name stop old new
+OpensData spot name (Err stop) old new = FailsAt call.Open spot (Opening name) stop old new
 
 -- a new number was added; or the numbers stay
 abbrev pub AddsData : (ℕ → Bool) → (ℕ → Bool) → Result ℕ Stop → Type 0

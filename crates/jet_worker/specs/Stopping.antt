@@ -1,35 +1,31 @@
 -- What a stop says of the outside.
-use Rattle.std.specs.Prelude.{◌≡◌, ℕ, ◌≤◌, Bool, true, ⊤, List, [], ◌∷◌, ◌++◌, Option, Some, Result, MatchResult, IfErr}
+use Rattle.std.specs.Prelude.{◌≡◌, ℕ, ◌≤◌, Bool, true, ⊤, List, [], ◌∷◌, Result, MatchResult, IfErr}
 use Rattle.jet_file.specs.Causes.{Rose}
-use Rattle.jet_file.specs.Outside.{Told, CallMade, Missed, Tried, Opening, Reading, Writing}
+use Rattle.jet_file.specs.Outside.{CallMade, Missed, Tried, Reading, Writing}
 use Rattle.jet_file.specs.declared.outside.Out.TheVariants as out
 use Rattle.jet_worker.specs.declared.stop.Call.{Call}
-use Rattle.jet_worker.specs.declared.stop.Call.TheVariants.{Open, Read, Write}
+use Rattle.jet_worker.specs.declared.stop.Call.TheVariants.{Read, Write}
 use Rattle.jet_worker.specs.declared.stop.Spot.{Spot}
 use Rattle.jet_worker.specs.declared.stop.Spot.TheVariants.{Rows, Notes}
 use Rattle.jet_worker.specs.declared.stop.Stop.{Stop}
 use Rattle.jet_worker.specs.declared.stop.Stop.TheVariants.{BadLine, Outside, NoMemory}
 
--- call and place are those of what was tried, where a place that is read is the file of this name
-abbrev pub IsCallOf : (Spot → Option (List ℕ)) → Told → Call → Spot → Tried → Type 0
-IsCallOf name_of told Open spot (Opening name) = name_of spot ≡ Some name
-IsCallOf name_of told Read spot (Reading file) = name_of spot ≡ Some (told.place file).name
-IsCallOf name_of told Write Rows (Writing out.Rows) = ⊤
-IsCallOf name_of told Write Notes (Writing out.Notes) = ⊤
-IsCallOf name_of told call spot tried = ⊥
+-- the call that is named is a write to the output that is named
+abbrev pub IsWriting : Call → Spot → Tried → Type 0
+IsWriting Write Rows (Writing out.Rows) = ⊤
+IsWriting Write Notes (Writing out.Notes) = ⊤
+IsWriting call spot tried = ⊥
 
--- the last call of all failed, and it is the one that is named
-pub record EndsFailed (name_of : Spot → Option (List ℕ)) (call : Call) (spot : Spot) (old new : Told) : Type 0 where
-  pub before : List CallMade
-  pub tried : Tried
-  pub trace : new.trace ≡ old.trace ++ before ++ Missed tried ∷ []
-  pub is : IsCallOf name_of new call spot tried
+-- the call that is named is a read of the opened file for this spot, or a write
+abbrev pub IsCallIn : Spot → ℕ → Call → Spot → Tried → Type 0
+IsCallIn spot file Read at (Reading other) = (at ≡ spot) × (other ≡ file)
+IsCallIn spot file call at tried = IsWriting call at tried
 
--- a stop for the outside names the call that failed
-abbrev pub StopTold : (Spot → Option (List ℕ)) → Stop → Told → Told → Type 0
-StopTold name_of (BadLine part line why) old new = ⊤
-StopTold name_of (Outside call spot) old new = EndsFailed name_of call spot old new
-StopTold name_of NoMemory old new = ⊤
+-- the stop names such a call, whose entry comes last; where it is for another cause no call failed
+abbrev pub LastIs : (Call → Spot → Tried → Type 0) → Stop → List CallMade → Type 0
+LastIs such (BadLine part line why) last = last ≡ []
+LastIs such (Outside call spot) last = (tried : Tried) × (last ≡ Missed tried ∷ []) × such call spot tried
+LastIs such NoMemory last = last ≡ []
 
 -- the stop names this call at this place, whose entry comes last; or memory was wanted, and nothing comes
 abbrev pub LastOf : Call → Spot → Tried → Stop → List CallMade → Type 0

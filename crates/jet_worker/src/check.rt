@@ -4,6 +4,7 @@ ghost use Rattle.jet_file.specs.Outside.{WhereTold};
 ghost use Rattle.jet_lines.specs.Files.{most_lines};
 ghost use Rattle.jet_flow.specs.DataFiles.{data_files};
 ghost use Rattle.jet_flow.specs.Grain.{IsGrain};
+ghost use Rattle.jet_worker.specs.Calls.{Calling};
 ghost use Rattle.jet_worker.specs.CheckText.{Checks};
 ghost use Rattle.jet_worker.specs.Checked.{CheckStops, IsCheckOf, IsChecked, LacksSome};
 ghost use Rattle.jet_worker.specs.inner.FileChecks.{ChecksFile};
@@ -38,9 +39,9 @@ pub(crate) struct Limits {
 /// Rows holds the lines of the good files before, or a front of these lines.
 pub fn check_files<O: Outside>(alloc: Global, plan: &Plan, out: &mut O) -> Result<(), Stop>
     ensures done { OnOk result ((c : Checks) → IsCheckOf plan.now.dag plan.now.settings c
-        → WhereTold (IsChecked c (O.opened out.old) (O.opened out.new)) (O.told out.old) (O.told out.new)) }
+        → WhereTold (Calling (IsChecked c (O.opened out.old) (O.opened out.new))) (O.told out.old) (O.told out.new)) }
     ensures stop { IfErr result (λ stop. (c : Checks) → IsCheckOf plan.now.dag plan.now.settings c
-        → WhereTold (CheckStops c stop) (O.told out.old) (O.told out.new)) }
+        → WhereTold (Calling (CheckStops c stop)) (O.told out.old) (O.told out.new)) }
     ensures works { O.steady out.old ≡ true → IfErr result (λ stop. IsForOutside stop → LacksSome (data_files plan.now.dag) (O.told out.old)) }
     ensures outcome { OpenOutcome O.steady O.faults out.old out.new result }
 {
@@ -78,9 +79,9 @@ fn check_all<O: Outside>(
     requires most { limits.most ≤ most_lines }
     requires unit { (pos 1 ≤ℤ limits.unit) × (limits.unit ≤ℤ pos 1000000000000) }
     ensures done { OnOk result ((c : Checks) → c.files ≡ map file_in files.now → c.most ≡ limits.most → limits.unit ≡ pos c.unit
-        → WhereTold (IsChecked c (O.opened out.old) (O.opened out.new)) (O.told out.old) (O.told out.new)) }
+        → WhereTold (Calling (IsChecked c (O.opened out.old) (O.opened out.new))) (O.told out.old) (O.told out.new)) }
     ensures stop { IfErr result (λ stop. (c : Checks) → c.files ≡ map file_in files.now → c.most ≡ limits.most → limits.unit ≡ pos c.unit
-        → WhereTold (CheckStops c stop) (O.told out.old) (O.told out.new)) }
+        → WhereTold (Calling (CheckStops c stop)) (O.told out.old) (O.told out.new)) }
     ensures works { O.steady out.old ≡ true → IfErr result (λ stop. IsForOutside stop → LacksSome (map file_in files.now) (O.told out.old)) }
     ensures outcome { OpenOutcome O.steady O.faults out.old out.new result }
 {

@@ -1,7 +1,7 @@
 // The steps of a run on the outside: opening, reading a piece, writing a text. Each names the call that fails.
 ghost use Rattle.std.specs.Prelude.{◌≡◌, ◌≤◌, ◌<◌, length, IsTrue, OnOk, IfOk, false, true, ◌++◌, IfErr};
-ghost use Rattle.jet_file.specs.Outside.{WhereTold, LacksFile, Opening, Reading};
-ghost use Rattle.jet_worker.specs.Feeding.{AddsData, FailsAt, FailsPiece, Flushes, OpensData, PutsPiece, ReadsBytes, ReadsPiece, WritesText};
+ghost use Rattle.jet_file.specs.Outside.{WhereTold, LacksFile};
+ghost use Rattle.jet_worker.specs.Feeding.{AddsData, FailsPiece, Flushes, OpensData, PutsPiece, ReadsBytes, ReadsPiece, WritesText};
 ghost use Rattle.jet_worker.specs.Stopping.{IsForOutside, IsNoBadLine, IsOfCall, OpenOutcome, Outcome};
 ghost use Rattle.jet_worker.specs.inner.Stopped.{stop_of, spot_of};
 
@@ -16,7 +16,6 @@ pub fn open_data<O: Outside>(out: &mut O, spot: Spot, name: &[u8]) -> Result<Fil
     ensures outcome { OpenOutcome O.steady O.faults out.old out.new result }
     ensures works { O.steady out.old ≡ true → IfErr result (λ stop. IsForOutside stop → LacksFile name.now (O.told out.old)) }
     ensures call { IfErr result (IsOfCall Call.Open spot) }
-    ensures alone { IfErr result (λ stop. WhereTold (FailsAt Call.Open spot (Opening name.now) stop) (O.told out.old) (O.told out.new)) }
     ensures no_bad_line { IfErr result IsNoBadLine }
 {
     match out.open_file(name) {
@@ -38,7 +37,6 @@ pub fn read_bytes<O: Outside>(
     ensures bound { IfOk result (λ n. n ≤ length buf.new) }
     ensures outcome { Outcome O.opened O.steady O.faults out.old out.new result }
     ensures call { IfErr result (IsOfCall Call.Read spot) }
-    ensures alone { IfErr result (λ stop. WhereTold (FailsAt Call.Read spot (Reading file) stop) (O.told out.old) (O.told out.new)) }
     ensures no_bad_line { IfErr result IsNoBadLine }
 {
     match out.read(file, buf) {

@@ -1,19 +1,12 @@
 -- What the end of a command before its work is done says of the outside.
-use Rattle.std.specs.Prelude.{◌≡◌, ℕ, ◌≤◌, Bool, List, Option, Some, None, Result, MatchResult}
-use Rattle.jet_file.specs.Outside.{Told}
-use Rattle.jet_worker.specs.Stopping.{CauseOfStop, IsForOutside, IsNoBadLine, StopTold}
-use Rattle.jet_worker.specs.declared.stop.Spot.{Spot}
+use Rattle.std.specs.Prelude.{◌≡◌, ℕ, ◌≤◌, Bool, Option, None, Result, MatchResult}
+use Rattle.jet_worker.specs.Stopping.{CauseOfStop, IsForOutside, IsNoBadLine}
 use Rattle.jet_worker.specs.declared.stop.Call.TheVariants.{Open, Read}
 use Rattle.jet_worker.specs.declared.stop.Spot.TheVariants.{Job}
 use Rattle.jet_worker.specs.declared.stop.Stop.TheVariants.{BadLine, Outside, NoMemory}
 use Rattle.jet_cli.specs.declared.halt.Halt.{Halt}
 use Rattle.jet_cli.specs.declared.halt.Halt.TheVariants.{Refused, Stopped}
 use Rattle.jet_cli.specs.declared.status.Refusal.{Refusal}
-
--- the job was refused for its first fault, and nothing was written; or a stop names the call that failed
-abbrev pub HaltTold : (Spot → Option (List ℕ)) → Option Refusal → Halt → Told → Told → Type 0
-HaltTold name_of refusal (Refused why) old new = (refusal ≡ Some why) × (new.written ≡ old.written)
-HaltTold name_of refusal (Stopped stop) old new = StopTold name_of stop old new
 
 -- a call on the outside ended the command
 abbrev pub IsOutsideHalt : Halt → Type 0

@@ -1,8 +1,8 @@
 -- What the reading of a text from an opened file does.
-use Rattle.std.specs.Prelude.{◌≡◌, ℕ, ◌<◌, ◌≤◌, List, [], length}
+use Rattle.std.specs.Prelude.{◌≡◌, ℕ, ◌<◌, ◌≤◌, List, [], length, sum}
 use Rattle.jet_file.specs.Outside.{Told, rest_of}
 use Rattle.jet_file.specs.Reading.{HasRead}
-use Rattle.jet_worker.specs.Feeding.{StopsAt}
+use Rattle.jet_worker.specs.Feeding.{StopsReads}
 use Rattle.jet_worker.specs.declared.stop.Spot.{Spot}
 use Rattle.jet_worker.specs.declared.stop.Stop.{Stop}
 
@@ -12,6 +12,7 @@ pub record ReadsFront (file most : ℕ) (text : List ℕ) (old new : Told) : Typ
   pub short : length text ≤ most
   pub all : length text < most → rest_of new file ≡ []
 
--- the reading stopped; the place that is named is that of the file
-abbrev pub StopsReading : Spot → ℕ → Stop → Told → Told → Type 0
-StopsReading spot file stop old new = StopsAt spot (old.place file).name stop old new
+-- the reading stopped; no more bytes were taken than so many
+pub record StopsReading (spot : Spot) (file most : ℕ) (stop : Stop) (old new : Told) : Type 0 where
+  pub reads : StopsReads spot file stop old new
+  pub few : sum reads.counts ≤ most

@@ -1,15 +1,16 @@
 -- The reading and the check of one opened file.
-use Rattle.std.specs.Prelude.{◌≡◌, ◌≢◌, ◌⊎◌, ℕ, ◌+◌, Bool, true, List, [], ◌++◌, length, Option, Some, None, Result, Ok, Err, ⊤}
+use Rattle.std.specs.Prelude.{◌≡◌, ◌≢◌, ◌⊎◌, ℕ, ◌+◌, Bool, true, List, [], ◌++◌, length, map, Option, Some, None, Result, Ok, Err, ⊤}
 use Rattle.jet_lines.specs.Cutting.{MayCome}
 use Rattle.jet_lines.specs.Lines.{lines_of}
 use Rattle.jet_lines.specs.LinesValue.{LinesValue}
-use Rattle.jet_file.specs.Outside.{Told, CallMade, WhereTold, rest_of}
+use Rattle.jet_file.specs.Outside.{Told, CallMade, WhereTold, Read, rest_of}
 use Rattle.jet_file.specs.declared.outside.Out.TheVariants as out
 use Rattle.jet_flow.specs.DataFiles.{DataFile}
+use Rattle.jet_worker.specs.Calls.{turn_calls}
 use Rattle.jet_worker.specs.CheckText.{Checks, check_line, first_bad}
-use Rattle.jet_worker.specs.Stopping.{IsNoBadLine, StopTold}
+use Rattle.jet_worker.specs.Feeding.{StopsReads}
+use Rattle.jet_worker.specs.Stopping.{IsCallIn, IsNoBadLine, LastIs}
 use Rattle.jet_worker.specs.inner.Tallying.{Tallied}
-use Rattle.jet_worker.specs.declared.stop.Spot.{Spot}
 use Rattle.jet_worker.specs.declared.stop.Spot.TheVariants.{Part}
 use Rattle.jet_worker.specs.declared.stop.Stop.{Stop}
 use Rattle.jet_worker.specs.declared.stop.Stop.TheVariants.{BadLine, Outside, NoMemory}
@@ -24,8 +25,8 @@ pub record HasTaken (at : ℕ) (bytes : List ℕ) (ended : Bool) (old now : Told
   pub name : (now.place at).name ≡ (old.place at).name
   pub taken : (now.place at).taken ≡ (old.place at).taken + length bytes
   pub others : (other : ℕ) → other ≢ at → now.place other ≡ old.place other
-  pub calls : List CallMade
-  pub trace : now.trace ≡ old.trace ++ calls
+  pub counts : List ℕ
+  pub trace : now.trace ≡ old.trace ++ map (Read at) counts
 
 -- these bytes of the file were taken and cut into these lines, which were counted
 pub record Progress (c : Checks) (p : ℕ × DataFile) (at : ℕ) (start now : Option Told) (lines : LinesValue) (tally : Tally) : Type 0 where
@@ -51,16 +52,10 @@ IsBadIn c p bytes (BadLine part n why) = (part ≡ p.0) × (first_bad c p bytes 
 IsBadIn c p bytes (Outside call spot) = ⊤
 IsBadIn c p bytes NoMemory = ⊤
 
--- the stop names the call that failed, where the part is the file
-abbrev pub StopsFrom : ℕ → ℕ → Stop → Told → Told → Type 0
-StopsFrom part at stop old new = (name_of : Spot → Option (List ℕ)) → name_of (Part part) ≡ Some (old.place at).name → StopTold name_of stop old new
-
 -- the reading of the file stopped, and nothing was written
 pub record StopsReading (c : Checks) (p : ℕ × DataFile) (at : ℕ) (stop : Stop) (old new : Told) : Type 0 where
-  pub told : StopsFrom p.0 at stop old new
   pub bad : IsBadIn c p (rest_of old at) stop
-  pub content : new.content ≡ old.content
-  pub written : new.written ≡ old.written
+  pub reads : StopsReads (Part p.0) at stop old new
 
 -- the lines of the file were counted to its end; or the reading stopped
 abbrev pub TalliesFile : Checks → ℕ × DataFile → ℕ → Tally → Result ℕ Stop → Told → Told → Type 0
@@ -78,8 +73,9 @@ pub record HasChecked (c : Checks) (p : ℕ × DataFile) (at : ℕ) (old now : T
   pub content : now.content ≡ old.content
   pub rows : now.written out.Rows ≡ old.written out.Rows ++ check_line c p bytes
   pub notes : now.written out.Notes ≡ old.written out.Notes
-  pub calls : List CallMade
-  pub trace : now.trace ≡ old.trace ++ calls
+  pub counts : List ℕ
+  pub lengths : List ℕ
+  pub trace : now.trace ≡ old.trace ++ turn_calls (record { file = at; counts = counts; lengths = lengths })
 
 -- the front of a good file's line, or nothing
 pub record IsFrontOf (c : Checks) (p : ℕ × DataFile) (bytes front : List ℕ) : Type 0 where
@@ -90,12 +86,16 @@ pub record IsFrontOf (c : Checks) (p : ℕ × DataFile) (bytes front : List ℕ)
 -- the check of the file stopped, and nothing was written but a front of its line where it is good
 pub record StopsChecking (c : Checks) (p : ℕ × DataFile) (at : ℕ) (stop : Stop) (old new : Told) : Type 0 where
   pub front : List ℕ
-  pub told : StopsFrom p.0 at stop old new
   pub bad : IsBadIn c p (rest_of old at) stop
   pub whole : (front ≡ []) ⊎ (IsNoBadLine stop × IsFrontOf c p (rest_of old at) front)
   pub content : new.content ≡ old.content
   pub rows : new.written out.Rows ≡ old.written out.Rows ++ front
   pub notes : new.written out.Notes ≡ old.written out.Notes
+  pub counts : List ℕ
+  pub lengths : List ℕ
+  pub last : List CallMade
+  pub fails : LastIs (IsCallIn (Part p.0) at) stop last
+  pub trace : new.trace ≡ old.trace ++ turn_calls (record { file = at; counts = counts; lengths = lengths }) ++ last
 
 -- the file is good and its line was written; or its check stopped
 abbrev pub ChecksFile : {T : Type 0} → Checks → ℕ × DataFile → ℕ → Result T Stop → Told → Told → Type 0

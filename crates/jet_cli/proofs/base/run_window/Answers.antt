@@ -4,8 +4,10 @@ use Rattle.std.proofs.lemmas.Int.{ints}
 use Rattle.jet_file.specs.Outside.{Told, AddsNumber}
 use Rattle.jet_cli.specs.Words.{WindowCommand}
 use Rattle.jet_cli.specs.WordsView.{window_in}
-use Rattle.jet_cli.proofs.LoopLemmas.{took_line, took_piece, less_left, stops_at_cut, stops_at_line, stops_else, stops_read, stops_at_end, done_at_end, outcome_of, works_on}
+use Rattle.jet_worker.proofs.LoopLemmas.{less_left}
+use Rattle.jet_cli.proofs.LoopLemmas.{took_line, took_piece, stops_at_cut, stops_at_line, stops_else, stops_read, stops_at_end, done_at_end, outcome_of, works_on}
 use Rattle.jet_cli.proofs.ProgressLemmas.{progress_starts}
+use Rattle.jet_cli.proofs.StopLemmas.{goes_unopened}
 use Rattle.jet_cli.proofs.base.run_window.Goals as goal
 
 pub cuts-init : goal.cuts-init
@@ -83,3 +85,8 @@ pub returns-in-End-clause-outcome : goal.returns-in-End-clause-outcome
 returns-in-End-clause-outcome g c =
     outcome_of g.O.Outside.opened g.O.Outside.steady g.O.Outside.faults c.args.out.now c.open_data.new.out c.cuts.out c.end_file.new.out c.end_file.result
     c.in_ok-file.ensures.outcome.steady_same c.in_ok-file.ensures.outcome.cause c.cuts.invariant.steady_same c.cuts.invariant.faults_same c.end_file.ensures.outcome
+
+pub returns-in_err-file-clause-stop : goal.returns-in_err-file-clause-stop
+returns-in_err-file-clause-stop g c =
+    let p = err_from_is_err_and c.from_residual.result c.from_residual.ensures.1 in rw (p.1, p.2)
+    (goes_unopened (window_in c.args.words.now) c.in_err-file.field-0.0 (g.O.Outside.told c.args.out.now) (g.O.Outside.told c.open_data.new.out) c.in_err-file.ensures.no_bad_line c.in_err-file.ensures.told)

@@ -6,7 +6,7 @@ use Rattle.jet_plan.specs.Plans.{IsFirst}
 use Rattle.jet_plan.specs.declared.settings.Settings.{Settings}
 use Rattle.jet_cli.specs.Refusals.{with_options}
 use Rattle.jet_cli.specs.WordsView.{job_read}
-use Rattle.jet_cli.proofs.CommandLemmas.{goes_halts_job, goes_halts_plan, goes_plan}
+use Rattle.jet_cli.proofs.CommandLemmas.{goes_halts_job, goes_halts_plan, goes_halts_text, goes_plan}
 use Rattle.jet_cli.proofs.job_file.read_plan.Goals as goal
 
 pub returns-in_err-job-clause-halt : goal.returns-in_err-job-clause-halt
@@ -33,3 +33,8 @@ returns-clause-plan g c =
     let is : job_at c.in_ok-text.text.items ≡ Ok c.in_ok-job.job = ap job_at (sym c.deref.ensures.value) ∙ c.in_ok-job.ensures.settled in
     goes_plan (job_read w) c.in_ok-text.text.items c.in_ok-job.job c.in_ok-check.field-0 (g.O.Outside.opened c.args.out.now) (g.O.Outside.opened c.job_text.new.out)
     (g.O.Outside.told c.args.out.now) (g.O.Outside.told c.job_text.new.out) is c.in_ok-check.ensures.0 (c.in_ok-check.ensures.1 ∙ c.with_options-settings.ensures) c.in_ok-text.ensures.text
+
+pub returns-in_err-text-clause-halt : goal.returns-in_err-text-clause-halt
+returns-in_err-text-clause-halt g c =
+    let p = err_from_is_err_and c.from_residual.result c.from_residual.ensures.1 in
+    rw (p.1, p.2) (goes_halts_text (job_read c.args.words.now) c.in_err-text.field-0.0 (g.O.Outside.told c.args.out.now) (g.O.Outside.told c.job_text.new.out) c.in_err-text.ensures.stop)

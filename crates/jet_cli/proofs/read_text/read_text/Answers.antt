@@ -1,13 +1,25 @@
-use Rattle.std.proofs.Common.{◌∙◌, ◌+◌, ◌≤◌, length, drop}
+use Rattle.std.proofs.Common.{◌∙◌, ◌+◌, ◌≤◌, ◌++◌, length, drop, take, refl}
 use Rattle.std.proofs.lemmas.Result.{err_from_is_err_and}
-use Rattle.jet_cli.proofs.TextLemmas.{goes_stops_reading, goes_front, goes_piece, piece_fits, room_fits}
+use Rattle.jet_cli.proofs.TextLemmas.{goes_stops_reading, goes_front, goes_lost, goes_piece, piece_fits, room_fits}
 use Rattle.jet_cli.proofs.read_text.read_text.Goals as goal
 
 pub returns-in_err-count-clause-stop : goal.returns-in_err-count-clause-stop
 returns-in_err-count-clause-stop g c =
     let p = err_from_is_err_and c.from_residual.result c.from_residual.ensures.1 in
-    rw (p.1, p.2) (goes_stops_reading c.args.spot c.args.file c.pieces.text.items c.in_err-count.field-0.0 (g.O.Outside.told c.args.out.now) (g.O.Outside.told c.pieces.out) (g.O.Outside.told c.read_bytes.new.out)
-    c.pieces.invariant.read c.in_err-count.ensures.told)
+    rw (p.1, p.2) (goes_stops_reading c.args.spot c.args.file c.args.most c.pieces.text.items c.in_err-count.field-0.0 (g.O.Outside.told c.args.out.now) (g.O.Outside.told c.pieces.out) (g.O.Outside.told c.read_bytes.new.out)
+    c.pieces.invariant.short c.pieces.invariant.read c.in_err-count.ensures.told)
+
+pub returns-in_err-append-clause-stop : goal.returns-in_err-append-clause-stop
+returns-in_err-append-clause-stop g c =
+    let p = err_from_is_err_and c.from_residual-in_err-append.result c.from_residual-in_err-append.ensures.1 in
+    let rest = drop c.min-room.result c.pieces.buf in
+    let text = c.pieces.text.items ++ take c.in_ok-count.count (c.read_bytes.new.buf ++ rest) in
+    let room : length c.pieces.text.items + length c.read_bytes.new.buf ≤ c.args.most =
+    room_fits c.pieces.text.items c.pieces.buf c.read_bytes.new.buf c.len-in-pieces.result c.min-room.result c.args.most c.read_bytes.auto.buf c.min-room.ensures (c.len-in-pieces.ensures ∙ c.pieces.text.ok.0) c.pieces.invariant.short in
+    rw (p.1, p.2) (goes_lost c.args.spot c.args.file c.args.most text c.in_err-append.field-0.0 (g.O.Outside.told c.args.out.now) (g.O.Outside.told c.read_bytes.new.out) c.in_err-append.ensures.err
+    (piece_fits c.pieces.text.items text c.read_bytes.new.buf rest c.in_ok-count.count c.args.most c.in_ok-count.ensures.bound refl room)
+    (goes_piece c.args.file c.pieces.text.items text c.read_bytes.new.buf rest c.in_ok-count.count (g.O.Outside.told c.args.out.now)
+    (g.O.Outside.told c.pieces.out) (g.O.Outside.told c.read_bytes.new.out) c.in_ok-count.ensures.bound refl c.pieces.invariant.read c.in_ok-count.ensures.told))
 
 pub returns-then-count-eq0-clause-text : goal.returns-then-count-eq0-clause-text
 returns-then-count-eq0-clause-text g c =

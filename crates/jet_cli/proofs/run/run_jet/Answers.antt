@@ -1,8 +1,9 @@
 use Rattle.std.proofs.Common.{◌≡◌, Option, Some, subst}
-use Rattle.std.specs.Prelude.{IsSomeAnd}
+use Rattle.std.specs.Prelude.{IfSome, IsSomeAnd}
 use Rattle.jet_file.specs.Outside.{WhereTold}
-use Rattle.jet_worker.specs.Stopping.{EndsFailed}
-use Rattle.jet_cli.specs.Commands.{Finishes, StaysQuiet, StaysQuietInTime, HasBadLine, names_of}
+use Rattle.jet_worker.specs.Calls.{Calling, EndsFailed}
+use Rattle.jet_cli.specs.CallOrder.{IsInOrder, place_in}
+use Rattle.jet_cli.specs.Commands.{Finishes, StaysQuiet, StaysQuietInTime, HasBadLine, HasBegun}
 use Rattle.jet_cli.specs.Refusals.{MayBeRefused}
 use Rattle.jet_cli.specs.Words.{JetCommand}
 use Rattle.jet_cli.specs.WordsView.{command_in}
@@ -38,4 +39,12 @@ returns-in-Some-clause-bad_line g c = λ part line why is. some_is _ (command_in
 
 pub returns-in-Some-clause-fault_call : goal.returns-in-Some-clause-fault_call
 returns-in-Some-clause-fault_call g c = λ call spot is. some_is _ (command_in c.in-Some.command)
-    (λ k. WhereTold (λ a. EndsFailed (names_of k a.content) call spot a) (g.O.Outside.told c.args.out.now) (g.O.Outside.told c.run_command.new.out)) c.in-Some.ensures.command (c.run_command.ensures.fault_call call spot is)
+    (λ k. WhereTold (Calling (λ calls a b. EndsFailed (place_in k) call spot calls)) (g.O.Outside.told c.args.out.now) (g.O.Outside.told c.run_command.new.out)) c.in-Some.ensures.command (c.run_command.ensures.fault_call call spot is)
+
+pub returns-in-Some-clause-calls : goal.returns-in-Some-clause-calls
+returns-in-Some-clause-calls g c = subst (λ (o : Option JetCommand). IfSome o (λ k. WhereTold (Calling (IsInOrder k)) (g.O.Outside.told c.args.out.now) (g.O.Outside.told c.run_command.new.out)))
+    c.in-Some.ensures.command c.run_command.ensures.calls
+
+pub returns-in-Some-clause-begun : goal.returns-in-Some-clause-begun
+returns-in-Some-clause-begun g c = λ is. some_is _ (command_in c.in-Some.command)
+    (λ k. WhereTold (HasBegun k) (g.O.Outside.told c.args.out.now) (g.O.Outside.told c.run_command.new.out)) c.in-Some.ensures.command (c.run_command.ensures.begun is)

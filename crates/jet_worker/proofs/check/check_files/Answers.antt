@@ -3,6 +3,7 @@ use Rattle.std.specs.Prelude.{unsigned_abs}
 use Rattle.std.proofs.lemmas.List.{length-map}
 use Rattle.jet_file.specs.Outside.{WhereTold}
 use Rattle.jet_flow.specs.DataFiles.{data_files}
+use Rattle.jet_worker.specs.Calls.{Calling}
 use Rattle.jet_worker.specs.CheckText.{Checks}
 use Rattle.jet_worker.specs.Checked.{CheckStops, IsCheckOf, IsChecked}
 use Rattle.jet_worker.specs.inner.Opening.{HasLag, file_in}
@@ -28,7 +29,7 @@ returns-in-Ok-clause-done g c =
     let files : map file_in c.deref.result.now ≡ data_files c.args.plan.now.dag = ap (map file_in) c.deref.ensures.value ∙ c.in-Ok.ensures ∙ ap data_files c.dag.ensures.dag in
     let l = c.limits_of-limits.ensures in
     on_ok c.check_all.result _
-    ((check : Checks) → IsCheckOf c.args.plan.now.dag c.args.plan.now.settings check → WhereTold (IsChecked check (g.O.Outside.opened c.args.out.now) (g.O.Outside.opened c.check_all.new.out)) (g.O.Outside.told c.args.out.now) (g.O.Outside.told c.check_all.new.out))
+    ((check : Checks) → IsCheckOf c.args.plan.now.dag c.args.plan.now.settings check → WhereTold (Calling (IsChecked check (g.O.Outside.opened c.args.out.now) (g.O.Outside.opened c.check_all.new.out))) (g.O.Outside.told c.args.out.now) (g.O.Outside.told c.check_all.new.out))
     (λ h check is. h check (is.files ∙ sym files) (same_most c.args.plan.now.settings.lines check.most c.limits_of-limits.result.most is.most l.most) (l.unit check.unit is.unit))
     c.check_all.ensures.done
 
@@ -37,7 +38,7 @@ returns-in-Ok-clause-stop g c =
     let files : map file_in c.deref.result.now ≡ data_files c.args.plan.now.dag = ap (map file_in) c.deref.ensures.value ∙ c.in-Ok.ensures ∙ ap data_files c.dag.ensures.dag in
     let l = c.limits_of-limits.ensures in
     if_err c.check_all.result _
-    (λ stop. (check : Checks) → IsCheckOf c.args.plan.now.dag c.args.plan.now.settings check → WhereTold (CheckStops check stop) (g.O.Outside.told c.args.out.now) (g.O.Outside.told c.check_all.new.out))
+    (λ stop. (check : Checks) → IsCheckOf c.args.plan.now.dag c.args.plan.now.settings check → WhereTold (Calling (CheckStops check stop)) (g.O.Outside.told c.args.out.now) (g.O.Outside.told c.check_all.new.out))
     (λ stop h check is. h check (is.files ∙ sym files) (same_most c.args.plan.now.settings.lines check.most c.limits_of-limits.result.most is.most l.most) (l.unit check.unit is.unit))
     c.check_all.ensures.stop
 

@@ -1,0 +1,58 @@
+-- The calls of a command on the outside, however it ends, and which of them a fault names.
+use Rattle.std.specs.Prelude.{◌≡◌, ⊤, ℕ, ◌+◌, ◌≤◌, List, [], ◌∷◌, ◌++◌, map, sum, All, Option, Some, None}
+use Rattle.jet_file.specs.Outside.{CallMade, Told}
+use Rattle.jet_flow.specs.DataFiles.{file_name}
+use Rattle.jet_worker.specs.Calls.{EndsFailed, OpensInOrder, ReadsInOrder, part_place}
+use Rattle.jet_worker.specs.declared.stop.Spot.{Spot}
+use Rattle.jet_worker.specs.declared.stop.Spot.TheVariants.{Job, Part}
+use Rattle.jet_worker.specs.declared.stop.Stop.{Stop}
+use Rattle.jet_worker.specs.declared.stop.Stop.TheVariants.{BadLine, Outside, NoMemory}
+use Rattle.jet_cli.specs.JobWords.{JobCommand}
+use Rattle.jet_cli.specs.JobData.{files_of}
+use Rattle.jet_cli.specs.Words.{JetCommand, WindowOf, PlanOf, CheckOf}
+
+-- one byte more than a job file may have
+abbrev pub most_text : ℕ
+most_text = 1048577
+
+-- the job file is opened first
+abbrev pub job_place : Spot → Option ℕ
+job_place Job = Some 0
+job_place spot = None
+
+-- and then the data files in the order of their numbers
+abbrev pub check_place : Spot → Option ℕ
+check_place Job = Some 0
+check_place (Part p) = Some (p + 1)
+check_place spot = None
+
+-- the place of a file among the openings of a command
+abbrev pub place_in : JetCommand → Spot → Option ℕ
+place_in (WindowOf c) = part_place
+place_in (PlanOf c) = job_place
+place_in (CheckOf c) = check_place
+
+-- the job file is opened and read, and no more bytes are taken of it than one too many
+pub record ReadsJob (name : List ℕ) (calls : List CallMade) : Type 0 where
+  pub order : ReadsInOrder (name ∷ []) calls
+  pub few : All (λ t. sum t.counts ≤ most_text) order.turns
+
+-- first the calls for the job file, and then those for the data files of its job
+pub record ChecksJob (c : JobCommand) (content : List ℕ → Option (List ℕ)) (calls : List CallMade) : Type 0 where
+  pub first : List CallMade
+  pub later : List CallMade
+  pub calls_are : calls ≡ first ++ later
+  pub job : ReadsJob c.job first
+  pub files : ReadsInOrder (map file_name (files_of (content c.job))) later
+
+-- the calls of a command come in its order, and no other file is opened
+abbrev pub IsInOrder : JetCommand → List CallMade → Told → Told → Type 0
+IsInOrder (WindowOf c) calls old new = OpensInOrder (c.file ∷ []) calls
+IsInOrder (PlanOf c) calls old new = ReadsJob c.job calls
+IsInOrder (CheckOf c) calls old new = ChecksJob c old.content calls
+
+-- where the stop is for a call that failed, it names the last one
+abbrev pub StopNamed : (Spot → Option ℕ) → Stop → List CallMade → Type 0
+StopNamed place_of (BadLine part line why) calls = ⊤
+StopNamed place_of (Outside call spot) calls = EndsFailed place_of call spot calls
+StopNamed place_of NoMemory calls = ⊤

@@ -1,0 +1,101 @@
+-- Openings and turns among the calls of a run.
+use Rattle.std.proofs.Common.{◌≡◌, ℕ, List, [], ◌∷◌, ◌++◌, map, All, refl, sym, ap, ◌∙◌, subst, inl, inr, append-nil}
+use Rattle.std.specs.Prelude.{flat_map}
+use Rattle.std.proofs.lemmas.Grind.{flat_map-append}
+use Rattle.std.proofs.lemmas.List.Elements.{All-append, All-cons, All-map, All-nil}
+use Rattle.jet_file.specs.Outside.{CallMade, Opened, Read, Wrote, Missed, Tried}
+use Rattle.jet_file.specs.declared.outside.Out.{Out}
+use Rattle.jet_file.specs.declared.outside.Out.TheVariants as out
+use Rattle.jet_worker.specs.Calls.{IsEnd, IsNoOpening, OpensInOrder, Turn, opened_by, opening_call, turn_calls}
+use Rattle.jet_worker.specs.Stopping.{IsCallIn, IsWriting, LastIs}
+use Rattle.jet_worker.specs.declared.stop.Call.{Call}
+use Rattle.jet_worker.specs.declared.stop.Call.TheVariants as call
+use Rattle.jet_worker.specs.declared.stop.Spot.{Spot}
+use Rattle.jet_worker.specs.declared.stop.Stop.{Stop}
+use Rattle.jet_worker.specs.declared.stop.Stop.TheVariants.{BadLine, Outside, NoMemory}
+
+-- ---- the numbers of the openings
+
+pub opened_by-append : (xs ys : List CallMade) → opened_by (xs ++ ys) ≡ opened_by xs ++ opened_by ys
+opened_by-append [] ys = refl
+opened_by-append (Opened name file ∷ xs) ys = ap (λ (l : List ℕ). file ∷ l) (opened_by-append xs ys)
+opened_by-append (Read file n ∷ xs) ys = opened_by-append xs ys
+opened_by-append (Wrote to n ∷ xs) ys = opened_by-append xs ys
+opened_by-append (Missed tried ∷ xs) ys = opened_by-append xs ys
+
+opened_by_reads : (file : ℕ) (counts : List ℕ) → opened_by (map (Read file) counts) ≡ []
+opened_by_reads file [] = refl
+opened_by_reads file (n ∷ counts) = opened_by_reads file counts
+
+opened_by_writes : (to : Out) (lengths : List ℕ) → opened_by (map (Wrote to) lengths) ≡ []
+opened_by_writes to [] = refl
+opened_by_writes to (n ∷ lengths) = opened_by_writes to lengths
+
+pub opened_by_turn : (t : Turn) → opened_by (turn_calls t) ≡ []
+opened_by_turn t = opened_by-append (map (Read t.file) t.counts) (map (Wrote out.Rows) t.lengths)
+    ∙ ap (λ (l : List ℕ). l ++ opened_by (map (Wrote out.Rows) t.lengths)) (opened_by_reads t.file t.counts) ∙ opened_by_writes out.Rows t.lengths
+
+pub opened_by_turns : (turns : List Turn) → opened_by (flat_map turn_calls turns) ≡ []
+opened_by_turns [] = refl
+opened_by_turns (t ∷ turns) =
+    opened_by-append (turn_calls t) (flat_map turn_calls turns) ∙ ap (λ (l : List ℕ). l ++ opened_by (flat_map turn_calls turns)) (opened_by_turn t) ∙ opened_by_turns turns
+
+pub opened_by_openings : (opened : List (List ℕ × ℕ)) → opened_by (map opening_call opened) ≡ map (λ o. o.1) opened
+opened_by_openings [] = refl
+opened_by_openings (o ∷ opened) = ap (λ (l : List ℕ). o.1 ∷ l) (opened_by_openings opened)
+
+-- the numbers of openings that turns follow
+pub opened_by_both : (opened : List (List ℕ × ℕ)) (turns : List Turn) → opened_by (map opening_call opened ++ flat_map turn_calls turns) ≡ map (λ o. o.1) opened
+opened_by_both opened turns =
+    opened_by-append (map opening_call opened) (flat_map turn_calls turns) ∙ ap (λ (l : List ℕ). opened_by (map opening_call opened) ++ l) (opened_by_turns turns)
+    ∙ append-nil (opened_by (map opening_call opened)) ∙ opened_by_openings opened
+
+-- ---- calls that open nothing
+
+pub none_reads : (file : ℕ) (counts : List ℕ) → All IsNoOpening (map (Read file) counts)
+none_reads file counts = All-map IsNoOpening (Read file) counts (λ k d short. tt)
+
+pub none_writes : (to : Out) (lengths : List ℕ) → All IsNoOpening (map (Wrote to) lengths)
+none_writes to lengths = All-map IsNoOpening (Wrote to) lengths (λ k d short. tt)
+
+pub none_turn : (t : Turn) → All IsNoOpening (turn_calls t)
+none_turn t = All-append IsNoOpening (map (Read t.file) t.counts) (map (Wrote out.Rows) t.lengths) (none_reads t.file t.counts) (none_writes out.Rows t.lengths)
+
+pub none_turns : (turns : List Turn) → All IsNoOpening (flat_map turn_calls turns)
+none_turns [] = All-nil IsNoOpening
+none_turns (t ∷ turns) = All-append IsNoOpening (turn_calls t) (flat_map turn_calls turns) (none_turn t) (none_turns turns)
+
+-- the call that failed opens nothing
+pub none_last : (such : Call → Spot → Tried → Type 0) (stop : Stop) (last : List CallMade) → ((call : Call) (spot : Spot) (tried : Tried) → such call spot tried → IsNoOpening (Missed tried)) → LastIs such stop last
+    → All IsNoOpening last
+none_last such (BadLine part line why) last f h = subst (All IsNoOpening) (sym h) (All-nil IsNoOpening)
+none_last such (Outside call spot) last f h = subst (All IsNoOpening) (sym h.1) (All-cons IsNoOpening (Missed h.0) [] (f call spot h.0 h.2) (All-nil IsNoOpening))
+none_last such NoMemory last f h = subst (All IsNoOpening) (sym h) (All-nil IsNoOpening)
+
+pub last_weaker : (such more : Call → Spot → Tried → Type 0) (stop : Stop) (last : List CallMade) → ((call : Call) (spot : Spot) (tried : Tried) → such call spot tried → more call spot tried) → LastIs such stop last
+    → LastIs more stop last
+last_weaker such more (BadLine part line why) last f h = h
+last_weaker such more (Outside call spot) last f h = (h.0, h.1, f call spot h.0 h.2)
+last_weaker such more NoMemory last f h = h
+
+-- a write is one of any file's calls
+pub write_in : (mine : Spot) (file : ℕ) (call : Call) (spot : Spot) (tried : Tried) → IsWriting call spot tried → IsCallIn mine file call spot tried
+write_in mine file call.Open spot tried h = absurd h
+write_in mine file call.Read spot tried h = absurd h
+write_in mine file call.Write spot tried h = h
+
+pub ends_last : (such : Call → Spot → Tried → Type 0) (stop : Stop) (last : List CallMade) → LastIs such stop last → IsEnd last
+ends_last such (BadLine part line why) last h = inl h
+ends_last such (Outside call spot) last h = inr (h.0, h.1)
+ends_last such NoMemory last h = inl h
+
+-- ---- openings in order
+
+-- what follows the openings of the first names
+pub opens_then : (opened : List (List ℕ × ℕ)) (names : List (List ℕ)) (later : List CallMade) → OpensInOrder names later → OpensInOrder (map (λ o. o.0) opened ++ names) (map opening_call opened ++ later)
+opens_then [] names later h = h
+opens_then (o ∷ opened) names later h = (refl, opens_then opened names later h)
+
+-- turns with one more
+pub turns_more : (turns : List Turn) (t : Turn) → flat_map turn_calls (turns ++ t ∷ []) ≡ flat_map turn_calls turns ++ turn_calls t
+turns_more turns t = flat_map-append turn_calls turns (t ∷ []) ∙ ap (λ (l : List CallMade). flat_map turn_calls turns ++ l) (append-nil (turn_calls t))
