@@ -1,7 +1,7 @@
 -- The watermark after one call more.
-use Rattle.std.proofs.Common.{◌≡◌, ℕ, zero, suc, ◌<◌, Bool, true, false, ◌&&◌, cond, ℤ, ◌≤ℤ◌, List, [], ◌∷◌, ◌++◌, length, map, replicate, Option, Some, None, refl, ap, sym, subst, ◌∙◌, arith, append-nil, slice_index_or, slice_set}
+use Rattle.std.proofs.Common.{◌≡◌, ℕ, zero, suc, ◌<◌, Bool, true, false, ◌&&◌, cond, ℤ, ◌≤ℤ◌, List, [], ◌∷◌, ◌++◌, length, map, take, drop, replicate, Option, Some, None, refl, ap, sym, subst, ◌∙◌, arith, append-nil, slice_index_or, slice_set}
 use Rattle.std.proofs.lemmas.Int.{ints, int_max_is}
-use Rattle.std.proofs.lemmas.List.{length-set, length-map, length-replicate, map-append, get_or_default}
+use Rattle.std.proofs.lemmas.List.{take_all, drop_all, length-set, length-map, length-replicate, map-append, get_or_default}
 use Rattle.std.proofs.lemmas.List.Elements.{filter_map-append}
 use Rattle.std.proofs.lemmas.List.Sums.{fold_push}
 use Rattle.std.specs.Prelude.{slice_get, int_lt}
@@ -16,11 +16,21 @@ use Rattle.jet_coalescer.specs.Queues.{unknown, counts, greatest_with, greater, 
 use Rattle.jet_coalescer.proofs.Bound.{HasNotLess, bounds_cons, present_reached, present_reaches, reached_rest}
 use Rattle.jet_coalescer.proofs.Told.{known-unheard, low-known, all_done-known, marked-known, ended-known, marked-told, ended-told, idled-told, woken-told}
 
+-- a queue was written over a slice of all, and they are the slice after it
+written : (qs now items : List Queue) (count q : ℕ) (queue : Queue) → qs ≡ slice_set now q queue → now ≡ items → count ≡ length items → take count (qs ++ drop (length qs) items) ≡ slice_set items q queue
+written qs now items count q queue is same all =
+    let set : qs ≡ slice_set items q queue = is ∙ ap (λ (ps : List Queue). slice_set ps q queue) same in
+    let long : length qs ≡ length items = ap length set ∙ length-set items q queue in
+    ap (λ rest. take count (qs ++ rest)) (drop_all (length qs) items (omega (arith, long)))
+    ∙ (ap (take count) (append-nil qs) ∙ (take_all count qs (omega (arith, long, all)) ∙ set))
+
 -- one queue was changed in its place
-pub changes : (change : Queue → Queue) (a : View) (qs : List Queue) (q : ℕ) (queue : Queue) → q < length a.queues → qs ≡ a.queues → queue ≡ slice_index_or qs q queue → slice_set qs q (change queue) ≡ with_queue change a.queues q
-changes change a qs q queue lt same is =
-    subst (λ (ps : List Queue). queue ≡ slice_index_or ps q queue → slice_set ps q (change queue) ≡ with_queue change a.queues q) (sym same)
-    (λ here. ap (λ (p : Queue). slice_set a.queues q (change p)) (here ∙ get_or_default a.queues q queue unknown lt)) is
+pub changes : (change : Queue → Queue) (a : View) (qs now items : List Queue) (count q : ℕ) (old queue : Queue) → q < length a.queues → items ≡ a.queues → old ≡ slice_index_or items q old → queue ≡ change old → qs ≡ slice_set now q queue → now ≡ items → count ≡ length items → take count (qs ++ drop (length qs) items) ≡ with_queue change a.queues q
+changes change a qs now items count q old queue lt same here is set whole all =
+    written qs now items count q queue set whole all
+    ∙ (ap (slice_set items q) is
+    ∙ subst (λ (ps : List Queue). old ≡ slice_index_or ps q old → slice_set ps q (change old) ≡ with_queue change a.queues q) (sym same)
+    (λ at. ap (λ (p : Queue). slice_set a.queues q (change p)) (at ∙ get_or_default a.queues q old unknown lt)) here)
 
 -- ---- of all fronts
 fronts_push : {X : Type 0} (xs : List X) (x : X) → fronts (xs ++ x ∷ []) ≡ fronts xs ++ (xs ++ x ∷ []) ∷ []

@@ -2,3 +2,4 @@ pub mod Low
 pub mod Notes
 pub mod Queues
 pub mod View
+pub mod inner

@@ -1,11 +1,13 @@
-// The coalescer. It keeps of each queue the greatest mark, and finds the least of them anew at each call: a job has few
-// queues at one vertex, and marks are rare beside data. Where that falls, since a queue woke up or its first mark is
-// still to come, the watermark stays.
-ghost use Rattle.std.specs.Prelude.{◌≡◌, ◌<◌, ℕ, ℤ, Some, None, true, false, List, [], ◌∷◌, ◌++◌, length, replicate, cond, IfOk};
+// The coalescer. It keeps of each queue the greatest mark, and how many queues hold the watermark back. Only where none
+// does it look at all queues, for the least of the marks, which is then above the watermark. So a watermark that stays
+// costs the same for every number of queues. Where the least mark falls, since a queue woke up or its first mark is still
+// to come, some queue holds the watermark back, and it stays.
+ghost use Rattle.std.specs.Prelude.{◌≡◌, ◌<◌, ℕ, ℤ, Some, None, true, false, List, [], ◌∷◌, ◌++◌, length, slice_set, replicate, cond, IfOk};
 ghost use Rattle.jet_coalescer.specs.declared.change.Change.TheVariants as change;
 ghost use Rattle.jet_coalescer.specs.Low.{History, unheard, HasHeard, with_mark, with_done, low, all_done, risen, raised, change_of};
 ghost use Rattle.jet_coalescer.specs.Notes.{Note, Marked, Ended, Idled, Woken, low_after, HasNotes};
 ghost use Rattle.jet_coalescer.specs.Queues.{unknown, greater, marked, ended, idled, woken, is_done_at, least_with, present, none_left, PresentIsLeast, RisesToLeast, HoldsNoneBack};
+ghost use Rattle.jet_coalescer.specs.inner.Counts.{holder_count};
 
 use crate::change::Change;
 use crate::queue::Queue;
@@ -18,18 +20,23 @@ use std::marker::Model;
 pub struct Coalescer {
     queues: Vec<Queue>,
     low: Option<Mark>,
+    // How many queues hold the watermark back.
+    holders: usize,
+    // How many queues are not done.
+    left: usize,
 }
 
 impl Model for Coalescer {
     ghost use Rattle.std.specs.Prelude.{◌≡◌};
     ghost use Rattle.jet_coalescer.specs.Queues.{greater, present};
+    ghost use Rattle.jet_coalescer.specs.inner.Counts.{holder_count, left_count};
     ghost use Rattle.jet_coalescer.specs.View.{View};
 
     ghost Value = { View };
 
     ghost view = { λ c. record { queues = c.queues.items; low = c.low } };
 
-    ghost invariant = { λ c. c.low ≡ greater c.low (present c.queues.items) };
+    ghost invariant = { λ c. (c.low ≡ greater c.low (present c.queues.items)) × (c.holders ≡ holder_count c.low c.queues.items) × (c.left ≡ left_count c.queues.items) };
 }
 
 impl Coalescer {
@@ -46,7 +53,12 @@ impl Coalescer {
         };
         let mut queues = Vec::new(alloc);
         queues.resize(n as usize, unknown)?;
-        Ok(Coalescer { queues, low: None })
+        Ok(Coalescer {
+            queues,
+            low: None,
+            holders: n as usize,
+            left: n as usize,
+        })
     }
 
     /// Takes one more mark of a queue, which wakes the queue, and answers the new watermark where there was none or it
@@ -64,8 +76,9 @@ impl Coalescer {
         ensures least { RisesToLeast self.old.low self.new }
         ensures reaches { HoldsNoneBack self.new }
     {
-        self.queues[queue as usize].hear(mark);
-        raise(&self.queues, &mut self.low)
+        let heard = self.queues[queue as usize].heard(mark);
+        replace(&mut self.queues, &mut self.holders, &self.low, queue, heard);
+        raise(&self.queues, &mut self.low, &mut self.holders)
     }
 
     /// Takes it that a queue is idle, so that the watermark waits for it no more, and answers the new watermark where
@@ -80,8 +93,12 @@ impl Coalescer {
         ensures least { RisesToLeast self.old.low self.new }
         ensures reaches { HoldsNoneBack self.new }
     {
-        self.queues[queue as usize].idle = true;
-        raise(&self.queues, &mut self.low)
+        let idle = Queue {
+            idle: true,
+            ..self.queues[queue as usize]
+        };
+        replace(&mut self.queues, &mut self.holders, &self.low, queue, idle);
+        raise(&self.queues, &mut self.low, &mut self.holders)
     }
 
     /// Takes it that a queue is idle no more, and answers the new watermark where there was none or it rose.
@@ -95,8 +112,12 @@ impl Coalescer {
         ensures least { RisesToLeast self.old.low self.new }
         ensures reaches { HoldsNoneBack self.new }
     {
-        self.queues[queue as usize].idle = false;
-        raise(&self.queues, &mut self.low)
+        let awake = Queue {
+            idle: false,
+            ..self.queues[queue as usize]
+        };
+        replace(&mut self.queues, &mut self.holders, &self.low, queue, awake);
+        raise(&self.queues, &mut self.low, &mut self.holders)
     }
 
     /// Takes the Done of a queue: from then on the watermark does not wait for it. Answers whether no queue is left,
@@ -114,9 +135,14 @@ impl Coalescer {
         ensures least { RisesToLeast self.old.low self.new }
         ensures reaches { HoldsNoneBack self.new }
     {
-        self.queues[queue as usize].done = true;
-        let rose = raise(&self.queues, &mut self.low);
-        change(all_done(&self.queues), rose)
+        let done = Queue {
+            done: true,
+            ..self.queues[queue as usize]
+        };
+        replace(&mut self.queues, &mut self.holders, &self.low, queue, done);
+        self.left -= 1;
+        let rose = raise(&self.queues, &mut self.low, &mut self.holders);
+        change(self.left == 0, rose)
     }
 
     /// The watermark: the greatest that the least of the greatest marks of the queues that are neither done nor idle
@@ -132,19 +158,45 @@ impl Coalescer {
     }
 }
 
+// Puts a queue in the place of one, and counts it among those that hold the watermark back where it does.
+fn replace(queues: &mut [Queue], holders: &mut usize, low: &Option<Mark>, at: u32, queue: Queue)
+    requires exists { at < length queues.old }
+    requires counted { holders.old ≡ holder_count low.now queues.old }
+    ensures queues { queues.new ≡ slice_set queues.old at queue }
+    ensures counted { holders.new ≡ holder_count low.now queues.new }
+{
+    let place = &mut queues[at as usize];
+    let held = place.holds_back(*low);
+    *place = queue;
+    let holds = place.holds_back(*low);
+    if held && !holds {
+        *holders -= 1;
+    }
+    if holds && !held {
+        *holders += 1;
+    }
+}
+
 // Makes the watermark the greater of it and the present value, and answers it where there was none or it rose.
-fn raise(queues: &[Queue], low: &mut Option<Mark>) -> Option<Mark>
+fn raise(queues: &[Queue], low: &mut Option<Mark>, holders: &mut usize) -> Option<Mark>
+    requires counted { holders.old ≡ holder_count low.old queues.now }
     ensures low { low.new ≡ greater low.old (present queues.now) }
     ensures answer { result ≡ risen low.old low.new }
+    ensures counted { holders.new ≡ holder_count low.new queues.now }
 {
-    let present = present(queues)?;
-    match *low {
-        Some(before) if present.t <= before.t => None,
-        _ => {
-            *low = Some(present);
-            Some(present)
-        }
+    if *holders > 0 {
+        return None;
     }
+    let present = present(queues)?;
+    *low = Some(present);
+    *holders = count_holders(queues, Some(present));
+    Some(present)
+}
+
+fn count_holders(queues: &[Queue], low: Option<Mark>) -> usize
+    ensures { result ≡ holder_count low queues.now }
+{
+    queues.iter().filter(|queue| queue.holds_back(low)).count()
 }
 
 // The least of the greatest marks of the queues that count. None where there is no such queue, or one of them has no
@@ -169,12 +221,6 @@ fn lesser(least: Option<Mark>, t: Mark) -> Mark
         Some(old) if old.t < t.t => old,
         _ => t,
     }
-}
-
-fn all_done(queues: &[Queue]) -> bool
-    ensures { result ≡ none_left queues.now }
-{
-    queues.iter().all(|queue| queue.done)
 }
 
 // What the end of a queue changed.

@@ -1,6 +1,8 @@
 // What a coalescer keeps of one queue.
 ghost use Rattle.std.specs.Prelude.{◌≡◌, Some};
+ghost use Rattle.jet_coalescer.specs.Low.{has_risen};
 ghost use Rattle.jet_coalescer.specs.Queues.{counts, greatest_with, with_queue_mark};
+ghost use Rattle.jet_coalescer.specs.inner.Counts.{holds_back};
 
 use jet_items::Mark;
 
@@ -20,12 +22,23 @@ impl Queue {
         !self.done && !self.idle
     }
 
-    /// Takes one more mark, which ends its idleness.
-    pub fn hear(&mut self, mark: Mark)
-        ensures { self.new ≡ with_queue_mark mark self.old }
+    /// The watermark waits for this queue and has got as far as its mark, or there is none: it cannot rise before this
+    /// queue changes.
+    pub fn holds_back(&self, low: Option<Mark>) -> bool
+        ensures { result ≡ holds_back low self.now }
     {
-        self.mark = Some(greater(self.mark, mark));
-        self.idle = false;
+        self.counts() && !self.mark.is_some_and(|mark| is_above(mark, low))
+    }
+
+    /// The queue after one more mark, which ends its idleness.
+    pub fn heard(&self, mark: Mark) -> Queue
+        ensures { result ≡ with_queue_mark mark self.now }
+    {
+        Queue {
+            mark: Some(greater(self.mark, mark)),
+            done: self.done,
+            idle: false,
+        }
     }
 }
 
@@ -36,5 +49,15 @@ fn greater(mark: Option<Mark>, t: Mark) -> Mark
     match mark {
         Some(old) if t.t < old.t => old,
         _ => t,
+    }
+}
+
+// Whether a watermark that is `low` rises to this mark.
+fn is_above(mark: Mark, low: Option<Mark>) -> bool
+    ensures { result ≡ has_risen low mark }
+{
+    match low {
+        Some(low) => low.t < mark.t,
+        None => true,
     }
 }

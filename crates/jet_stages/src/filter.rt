@@ -9,7 +9,6 @@ ghost use Rattle.jet_expr.specs.Flows.{passes};
 ghost use Rattle.jet_stages.specs.Stage.{item_gives, StageStands, StageBag, MarksPass};
 ghost use Rattle.jet_stages.specs.Filter.{filtered};
 
-use crate::put::put;
 use jet_boxes::{Outbox, Port, Processor};
 use jet_expr::Expr;
 use jet_items::{Item, Mark, NoMemory};
@@ -74,11 +73,11 @@ impl Processor for FilterP {
         if self.drops(item) {
             return Ok(true);
         }
-        Ok(put(out, item))
+        Ok(out.put(item))
     }
 
     fn mark(&mut self, mark: Mark, out: &mut Outbox) -> Result<bool, NoMemory> {
-        Ok(put(out, &Item::Mark(mark)))
+        Ok(out.put(&Item::Mark(mark)))
     }
 
     fn close_queue(&mut self, port: Port, queue: u32, out: &mut Outbox) -> bool

@@ -13,7 +13,6 @@ ghost use Rattle.jet_stages.specs.Stage.{StageBag, MarksPass};
 ghost use Rattle.jet_stages.specs.Flat.{leg_value, joined_key, legs_give, FlatStands, FlatAmid, FlatBagAmid, Progress};
 
 use crate::leg::Leg;
-use crate::put::put;
 use jet_boxes::{Outbox, Port, Processor};
 use jet_items::{Event, Item, Mark, NoMemory};
 
@@ -86,12 +85,12 @@ impl Processor for FlatP {
     ) -> Result<bool, NoMemory> {
         match item {
             Item::Event(event) => Ok(self.give_legs(event, out)),
-            other => Ok(put(out, other)),
+            other => Ok(out.put(other)),
         }
     }
 
     fn mark(&mut self, mark: Mark, out: &mut Outbox) -> Result<bool, NoMemory> {
-        Ok(put(out, &Item::Mark(mark)))
+        Ok(out.put(&Item::Mark(mark)))
     }
 
     fn close_queue(&mut self, port: Port, queue: u32, out: &mut Outbox) -> bool

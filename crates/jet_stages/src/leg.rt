@@ -5,7 +5,6 @@ ghost use Rattle.jet_expr.specs.Flows.{leg_event};
 ghost use Rattle.jet_stages.specs.Flat.{leg_value, joined_key, legs_give};
 
 use crate::field::field_at;
-use crate::put::put;
 use jet_boxes::Outbox;
 use jet_expr::Expr;
 use jet_items::{Event, Item, Key};
@@ -49,7 +48,7 @@ impl Leg {
         ensures full { result ≡ false → length out.old.items ≡ out.old.room }
     {
         if self.test.test(event) {
-            return put(out, &Item::Event(self.made(event)));
+            return out.put(&Item::Event(self.made(event)));
         }
         true
     }

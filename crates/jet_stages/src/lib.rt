@@ -10,7 +10,6 @@ mod filter;
 mod flat;
 mod leg;
 mod map;
-mod put;
 mod stamp;
 
 pub use filter::FilterP;

@@ -11,7 +11,6 @@ ghost use Rattle.jet_stages.specs.Stage.{item_gives, StageStands, StageBag, Mark
 ghost use Rattle.jet_stages.specs.Map.{remade};
 
 use crate::field::field_at;
-use crate::put::put;
 use jet_boxes::{Outbox, Port, Processor};
 use jet_expr::Expr;
 use jet_items::{Event, Item, Mark, NoMemory};
@@ -99,11 +98,11 @@ impl Processor for MapP {
         item: &Item,
         out: &mut Outbox,
     ) -> Result<bool, NoMemory> {
-        Ok(put(out, &self.turned(item)))
+        Ok(out.put(&self.turned(item)))
     }
 
     fn mark(&mut self, mark: Mark, out: &mut Outbox) -> Result<bool, NoMemory> {
-        Ok(put(out, &Item::Mark(mark)))
+        Ok(out.put(&Item::Mark(mark)))
     }
 
     fn close_queue(&mut self, port: Port, queue: u32, out: &mut Outbox) -> bool

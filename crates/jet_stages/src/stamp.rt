@@ -13,7 +13,6 @@ ghost use Rattle.jet_stages.specs.Calls.{StampCall};
 ghost use Rattle.jet_stages.specs.Stamp.{unless_idle, StampMarks, StampBag, StampBagAmid, FromFiles, HasNoResults};
 ghost use Rattle.jet_stages.specs.Stamping.{Knows, Notes, Stands, Amid, Same, mark_items, told_by};
 
-use crate::put::put;
 use jet_boxes::{Outbox, Port, Processor};
 use jet_coalescer::{Change, Coalescer};
 use jet_items::{Item, Mark, NoMemory};
@@ -105,7 +104,7 @@ impl Stamp {
         ensures waits { result ≡ false → (self.new ≡ self.old) × (out.new ≡ out.old) × (length out.old.items ≡ out.old.room) × IsSome self.old.owed }
     {
         if let Some(mark) = self.owed {
-            if !put(out, &Item::Mark(mark)) {
+            if !out.put(&Item::Mark(mark)) {
                 return false;
             }
             self.owed = None;
@@ -122,7 +121,7 @@ fn pass_on(out: &mut Outbox, item: &Item) -> bool
 {
     match item {
         Item::Idle => true,
-        other => put(out, other),
+        other => out.put(other),
     }
 }
 

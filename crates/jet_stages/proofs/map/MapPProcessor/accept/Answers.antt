@@ -7,4 +7,4 @@ use Rattle.jet_stages.proofs.map.MapPProcessor.accept.Goals as goal
 
 pub returns : goal.returns
 returns c =
-    call_puts (λ (p : MapP). remade p.set) (λ p q. q.set ≡ p.set) c.args.self.now refl (Given c.args._port c.args._queue c.args.item.now) c.args.out.now c.put.new.out c.put.result c.turned.result c.turned.ensures c.put.ensures.put c.put.ensures.kept c.put.ensures.full
+    call_puts (λ (p : MapP). remade p.set) (λ p q. q.set ≡ p.set) c.args.self.now refl (Given c.args._port c.args._queue c.args.item.now) c.args.out.now c.put.new.self c.put.result c.turned.result c.turned.ensures c.put.ensures.put c.put.ensures.kept c.put.ensures.full
