@@ -9,9 +9,9 @@ pub mod FrameCalls
 pub mod Framing
 pub mod Gathering
 pub mod Giving
-pub mod Inserting
 pub mod Members
 pub mod Moving
+pub mod Placing
 pub mod Promising
 pub mod Reading
 pub mod Staging

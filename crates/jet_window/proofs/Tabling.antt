@@ -43,7 +43,7 @@ int_equal_if x y false false e f h =
     let b : (y <ℤ x) → ⊥ = not_so (int_lt y x) (Decides-int_lt y x) f in
     by_lt_z x y (λ lt. absurd (a lt)) (λ le. by_lt_z y x (λ gt. absurd (b gt)) (λ ge. omega (arith, ints)))
 
-int_cmp_equal : (x y : ℤ) → int_cmp x y ≡ Equal → x ≡ y
+pub int_cmp_equal : (x y : ℤ) → int_cmp x y ≡ Equal → x ≡ y
 int_cmp_equal x y h = int_equal_if x y (int_lt x y) (int_lt y x) refl refl h
 
 pub place_equal : (x y : Place) → place_cmp x y ≡ Equal → x ≡ y

@@ -14,6 +14,7 @@ pub mod InOrder
 pub mod LateEvents
 pub mod Passing
 pub mod Plain
+pub mod Places
 pub mod PlainLaws
 pub mod StageLaws
 pub mod Tables
