@@ -11,6 +11,7 @@ pub mod Gathering
 pub mod Giving
 pub mod Members
 pub mod Moving
+pub mod Opening
 pub mod Placing
 pub mod Promising
 pub mod Reading
@@ -18,5 +19,6 @@ pub mod Staging
 pub mod Standing
 pub mod Stepping
 pub mod Tabling
+pub mod Timing
 pub mod Walking
 pub mod Windowing

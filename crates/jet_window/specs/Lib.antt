@@ -8,6 +8,7 @@ pub mod FrameCalls
 pub mod FrameLaws
 pub mod FrameStands
 pub mod FrameTables
+pub mod FrameView
 pub mod Held
 pub mod Idles
 pub mod InOrder
@@ -19,5 +20,6 @@ pub mod PlainLaws
 pub mod StageLaws
 pub mod Tables
 pub mod Taken
+pub mod Times
 pub mod WindowRows
 pub mod inner

@@ -14,10 +14,12 @@ mod driven;
 mod frame;
 mod held;
 mod laws;
+mod open_frames;
 mod ordered;
 mod plain;
 mod stages;
 mod table;
+mod times;
 
 pub use combine::CombineP;
 pub use frame::FrameP;
@@ -29,6 +31,8 @@ pub use stages::{
     ordered_are_rows, whole_windows,
 };
 
+#[cfg(test)]
+mod frame_tests;
 #[cfg(test)]
 mod tests_stages;
 #[cfg(test)]
