@@ -26,6 +26,7 @@ use Rattle.jet_window.specs.FrameTables.{frame_of}
 use Rattle.jet_window.specs.CombineStands.{CombineBag}
 use Rattle.jet_window.specs.CombineView.{held_frames}
 use Rattle.jet_window.specs.Later.{newly}
+use Rattle.jet_window.specs.FrameView.{held_by}
 use Rattle.jet_window.specs.LateEvents.{comes_late, brought, late_by, kept_events}
 use Rattle.jet_window.specs.StageLaws.{FramesSumKept}
 use Rattle.jet_window.specs.Taken.{due_after, is_due, is_finished, last_mark, StageInput}
@@ -93,31 +94,31 @@ vertex_if : (vertex : ℕ) (e : EventValue) (b : Bool) (ls : List LateValue) →
 vertex_if vertex e true ls h = (refl, h)
 vertex_if vertex e false ls h = h
 
-own_lates : (vertex : ℕ) (slide : ℤ) (last : Option ℤ) (xs : List Item) → lates_of xs ≡ [] → Each (λ l. l.vertex ≡ vertex) (brought (late_by vertex slide None) last xs)
-own_lates vertex slide last [] h = tt
-own_lates vertex slide last (item.Event e ∷ xs) h = vertex_if vertex e (comes_late slide None last e.ts) (brought (late_by vertex slide None) last xs) (own_lates vertex slide last xs h)
-own_lates vertex slide last (item.Side s ∷ xs) h = own_lates vertex slide last xs h
-own_lates vertex slide last (item.Frame f ∷ xs) h = own_lates vertex slide last xs h
-own_lates vertex slide last (item.Row r ∷ xs) h = own_lates vertex slide last xs h
-own_lates vertex slide last (item.Late l ∷ xs) h = absurd (cc)
-own_lates vertex slide last (item.Idle ∷ xs) h = own_lates vertex slide last xs h
-own_lates vertex slide last (item.Mark m ∷ xs) h = own_lates vertex slide (Some m) xs h
-own_lates vertex slide last (item.Done ∷ xs) h = own_lates vertex slide last xs h
+own_lates : (vertex : ℕ) (slide : ℤ) (begun last : Option ℤ) (xs : List Item) → lates_of xs ≡ [] → Each (λ l. l.vertex ≡ vertex) (brought (late_by vertex slide begun) last xs)
+own_lates vertex slide begun last [] h = tt
+own_lates vertex slide begun last (item.Event e ∷ xs) h = vertex_if vertex e (comes_late slide begun last e.ts) (brought (late_by vertex slide begun) last xs) (own_lates vertex slide begun last xs h)
+own_lates vertex slide begun last (item.Side s ∷ xs) h = own_lates vertex slide begun last xs h
+own_lates vertex slide begun last (item.Frame f ∷ xs) h = own_lates vertex slide begun last xs h
+own_lates vertex slide begun last (item.Row r ∷ xs) h = own_lates vertex slide begun last xs h
+own_lates vertex slide begun last (item.Late l ∷ xs) h = absurd (cc)
+own_lates vertex slide begun last (item.Idle ∷ xs) h = own_lates vertex slide begun last xs h
+own_lates vertex slide begun last (item.Mark m ∷ xs) h = own_lates vertex slide begun (Some m) xs h
+own_lates vertex slide begun last (item.Done ∷ xs) h = own_lates vertex slide begun last xs h
 
-frame_ended : FramesSumKept → (vertex : ℕ) (slide : ℤ) (held : List FrameValue) (inputs : List InputView) (outputs : List OutputView) (taken : List CallEntry) (given : List Item)
-    → Over (λ taken given. FrameBag vertex slide None held taken taken given) inputs outputs taken given
+frame_ended : FramesSumKept → (vertex : ℕ) (slide : ℤ) (begun : Option ℤ) (held : List FrameValue) (inputs : List InputView) (outputs : List OutputView) (taken : List CallEntry) (given : List Item)
+    → Over (λ taken given. FrameBag vertex slide begun held taken taken given) inputs outputs taken given
     → others_of (all_data inputs) ≡ [] → FrameEnded vertex slide inputs given
-frame_ended law vertex slide held inputs outputs taken given o none =
+frame_ended law vertex slide begun held inputs outputs taken given o none =
     let others : others_of (items_of taken) ≡ [] = empty_bag (others_of (items_of taken)) (subst (λ (xs : List Item). SameBag (others_of (items_of taken)) xs) none (kind_bag as_other (λ m. refl) refl (items_of taken) (all_data inputs) o.told.merged)) in
     let alone = none_else (items_of taken) others in
     let no_late : late_events (items_of taken) ≡ [] = ap (λ (ls : List LateValue). map (λ l. l.event) ls) alone.lates in
-    let all : SameBag (events_of (items_of taken)) (late_events given ++ kept_events slide None (items_of taken)) =
-    subst (λ (es : List EventValue). SameBag es (late_events given ++ kept_events slide None (items_of taken))) (ap (λ (es : List EventValue). events_of (items_of taken) ++ es) no_late ∙ append-nil (events_of (items_of taken))) o.follows.parts in
+    let all : SameBag (events_of (items_of taken)) (late_events given ++ kept_events slide begun (items_of taken)) =
+    subst (λ (es : List EventValue). SameBag es (late_events given ++ kept_events slide begun (items_of taken))) (ap (λ (es : List EventValue). events_of (items_of taken) ++ es) no_late ∙ append-nil (events_of (items_of taken))) o.follows.parts in
     record {
-      kept = kept_events slide None (items_of taken);
+      kept = kept_events slide begun (items_of taken);
       parts = SameBag-trans (SameBag-sym (kind_bag as_event (λ m. refl) refl (items_of taken) (all_data inputs) o.told.merged)) all;
-      sums = law vertex slide None held o.front taken taken given o.follows o.parts alone.frames;
-      vertices = subst (Each (λ (l : LateValue). l.vertex ≡ vertex)) (sym o.follows.lates) (own_lates vertex slide None (items_of taken) alone.lates);
+      sums = law vertex slide begun held o.front taken taken given o.follows o.parts alone.frames;
+      vertices = subst (Each (λ (l : LateValue). l.vertex ≡ vertex)) (sym o.follows.lates) (own_lates vertex slide begun None (items_of taken) alone.lates);
       rows = o.follows.rows ∙ alone.rows;
       events = o.follows.events;
     }
@@ -161,5 +162,5 @@ ended law (any.Map t) came given o = stage_ended (map (mapped t.processor.set)) 
 ended law (any.Filter t) came given o = stage_ended (filter (passes t.processor.test)) (λ xs ys h. SameBag-filter (passes t.processor.test) h) (inputs_view t.inputs.items) (outputs_view t.outputs.items) (told_of t came) given o.0
 ended law (any.Flat t) came given o = stage_ended (flat_map (legs_give t.processor.legs.items)) (λ xs ys h. SameBag-flat_map (legs_give t.processor.legs.items) h) (inputs_view t.inputs.items) (outputs_view t.outputs.items) (told_of t came) given o.0
 ended law (any.Join t) came given o = λ none. join_ended (setting_of t.processor) (inputs_view t.inputs.items) (outputs_view t.outputs.items) (told_of t came) given o.0 none
-ended law (any.Frame t) came given o = λ none. frame_ended law t.processor.vertex t.processor.policy.slide (map (frame_of t.processor.vertex) t.processor.held.entries) (inputs_view t.inputs.items) (outputs_view t.outputs.items) (told_of t came) given o.0 none
+ended law (any.Frame t) came given o = λ none. frame_ended law t.processor.vertex t.processor.times.policy.slide t.processor.times.begun (map (frame_of t.processor.vertex) (held_by t.processor)) (inputs_view t.inputs.items) (outputs_view t.outputs.items) (told_of t came) given o.0 none
 ended law (any.Combine t) came given o = λ closed none. combine_ended t.processor.vertex t.processor.policy.size t.processor.policy.slide t.processor.begun t.processor.last t.processor.start.items (held_frames t.processor) (inputs_view t.inputs.items) (outputs_view t.outputs.items) (told_of t came) given o.0 closed none

@@ -26,6 +26,7 @@ use Rattle.jet_window.specs.FrameTables.{frame_of}
 use Rattle.jet_window.specs.CombineStands.{CombineBag, CombineBagAmid}
 use Rattle.jet_window.specs.CombineView.{held_frames}
 use Rattle.jet_window.specs.Later.{newly}
+use Rattle.jet_window.specs.FrameView.{held_by}
 use Rattle.jet_window.specs.Taken.{due_after, is_due, StageInput}
 use Rattle.jet_tasklet.specs.declared.any.AnyTasklet.{AnyTasklet}
 use Rattle.jet_tasklet.specs.declared.any.AnyTasklet.TheVariants as any
@@ -128,7 +129,7 @@ gives (any.Flat t) came gave s =
     stage_gives (flat_map (legs_give t.processor.legs.items)) (StageBag (flat_map (legs_give t.processor.legs.items))) (FlatBagAmid (flat_map (legs_give t.processor.legs.items))) (spread_flat (legs_give t.processor.legs.items)) (λ taken given h. h) (λ taken entry given h. inl (h.held, h.bag))
     (inputs_view t.inputs.items) (told_of t came) (gave ++ t.outbox.items) s
 gives (any.Join t) came gave s = λ rows none whole. join_gives (setting_of t.processor) rows (inputs_view t.inputs.items) (told_of t came) (gave ++ t.outbox.items) s none whole
-gives (any.Frame t) came gave s = frame_gives t.processor.vertex t.processor.policy.slide (map (frame_of t.processor.vertex) t.processor.held.entries) (inputs_view t.inputs.items) (told_of t came) (gave ++ t.outbox.items) s
+gives (any.Frame t) came gave s = frame_gives t.processor.vertex t.processor.times.policy.slide t.processor.times.begun (map (frame_of t.processor.vertex) (held_by t.processor)) (inputs_view t.inputs.items) (told_of t came) (gave ++ t.outbox.items) s
 gives (any.Combine t) came gave s = combine_gives t.processor.vertex t.processor.policy.size t.processor.policy.slide t.processor.begun t.processor.last t.processor.start.items (held_frames t.processor) (inputs_view t.inputs.items) (told_of t came) (gave ++ t.outbox.items) s
 
 -- ---- what was sent to a destination is a part of what was given

@@ -1,6 +1,6 @@
 -- What each kind of tasklet has given so far.
 use Rattle.std.proofs.Common.{◌≡◌, ℕ, ◌+◌, ◌≤◌, ℤ, List, [], ◌∷◌, ◌++◌, length, sum_by, refl, sym, ◌∙◌, ap, subst, append-nil, append_assoc, inl, inr, arith}
-use Rattle.std.specs.Prelude.{◌⊎◌, None}
+use Rattle.std.specs.Prelude.{◌⊎◌, Option}
 use Rattle.std.specs.List.{flat_map}
 use Rattle.std.proofs.lemmas.List.{length-append, length-map}
 use Rattle.std.proofs.lemmas.List.Sums.{sum_by-append, sum_by-cons}
@@ -143,8 +143,8 @@ load_taken inputs told taken more is parts =
       count_merged as_late (λ m. refl) refl inputs told is,
     )
 
-frame_part : (vertex : ℕ) (slide : ℤ) (held : List FrameValue) (upto : List CallEntry) (inputs : List InputView) (told taken more : List CallEntry) (given : List Item) → IsTold inputs told → told ≡ taken ++ more → FrameBag vertex slide None held upto taken given → load given ≤ load (all_data inputs)
-frame_part vertex slide held upto inputs told taken more given is parts h =
+frame_part : (vertex : ℕ) (slide : ℤ) (begun : Option ℤ) (held : List FrameValue) (upto : List CallEntry) (inputs : List InputView) (told taken more : List CallEntry) (given : List Item) → IsTold inputs told → told ≡ taken ++ more → FrameBag vertex slide begun held upto taken given → load given ≤ load (all_data inputs)
+frame_part vertex slide begun held upto inputs told taken more given is parts h =
     omega (
       arith,
       ap length h.events,
@@ -153,18 +153,18 @@ frame_part vertex slide held upto inputs told taken more given is parts h =
       same_length (frames_of given) (frames_of (items_of taken) ++ h.own) h.passed,
       length-append (frames_of (items_of taken)) h.own,
       h.few,
-      same_length (events_of (items_of taken) ++ late_events (items_of taken)) (late_events given ++ kept_events slide None (items_of taken)) h.parts,
+      same_length (events_of (items_of taken) ++ late_events (items_of taken)) (late_events given ++ kept_events slide begun (items_of taken)) h.parts,
       length-append (events_of (items_of taken)) (late_events (items_of taken)),
-      length-append (late_events given) (kept_events slide None (items_of taken)),
+      length-append (late_events given) (kept_events slide begun (items_of taken)),
       length-map (lates_of given) (λ l. l.event),
       length-map (lates_of (items_of taken)) (λ l. l.event),
       load_taken inputs told taken more is parts,
     )
 
-pub frame_gives : (vertex : ℕ) (slide : ℤ) (held : List FrameValue) (inputs : List InputView) (told : List CallEntry) (given : List Item)
-    → SoFar (λ taken given. FrameBag vertex slide None held taken taken given) (λ taken entry given. FrameBag vertex slide None held (taken ++ entry ∷ []) taken given) inputs told given → load given ≤ load (all_data inputs)
-frame_gives vertex slide held inputs told given so_far =
-    by_state (λ taken given. FrameBag vertex slide None held taken taken given) (λ taken entry given. FrameBag vertex slide None held (taken ++ entry ∷ []) taken given) (λ xs. load xs ≤ load (all_data inputs)) inputs told given
-    (λ taken more given parts h. frame_part vertex slide held taken inputs told taken more given so_far.told parts h)
-    (λ taken entry more given parts h. frame_part vertex slide held (taken ++ entry ∷ []) inputs told taken (entry ∷ more) given so_far.told parts h)
+pub frame_gives : (vertex : ℕ) (slide : ℤ) (begun : Option ℤ) (held : List FrameValue) (inputs : List InputView) (told : List CallEntry) (given : List Item)
+    → SoFar (λ taken given. FrameBag vertex slide begun held taken taken given) (λ taken entry given. FrameBag vertex slide begun held (taken ++ entry ∷ []) taken given) inputs told given → load given ≤ load (all_data inputs)
+frame_gives vertex slide begun held inputs told given so_far =
+    by_state (λ taken given. FrameBag vertex slide begun held taken taken given) (λ taken entry given. FrameBag vertex slide begun held (taken ++ entry ∷ []) taken given) (λ xs. load xs ≤ load (all_data inputs)) inputs told given
+    (λ taken more given parts h. frame_part vertex slide begun held taken inputs told taken more given so_far.told parts h)
+    (λ taken entry more given parts h. frame_part vertex slide begun held (taken ++ entry ∷ []) inputs told taken (entry ∷ more) given so_far.told parts h)
     (λ given h. let none : load (item.Done ∷ []) ≡ 0 = refl in omega (arith, load_two given (item.Done ∷ []), none, h)) so_far

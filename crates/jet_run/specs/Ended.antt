@@ -69,7 +69,7 @@ EndedByKind (any.Map t) given = StageEnded (map (mapped t.processor.set)) (input
 EndedByKind (any.Filter t) given = StageEnded (filter (passes t.processor.test)) (inputs_view t.inputs.items) given
 EndedByKind (any.Flat t) given = StageEnded (flat_map (legs_give t.processor.legs.items)) (inputs_view t.inputs.items) given
 EndedByKind (any.Join t) given = events_of (data_received Build (inputs_view t.inputs.items)) ≡ [] → JoinEnded (setting_of t.processor) (inputs_view t.inputs.items) given
-EndedByKind (any.Frame t) given = others_of (all_data (inputs_view t.inputs.items)) ≡ [] → FrameEnded t.processor.vertex t.processor.policy.slide (inputs_view t.inputs.items) given
+EndedByKind (any.Frame t) given = others_of (all_data (inputs_view t.inputs.items)) ≡ [] → FrameEnded t.processor.vertex t.processor.times.policy.slide (inputs_view t.inputs.items) given
 EndedByKind (any.Combine t) given =
     EachReceived Closed (inputs_view t.inputs.items) → rows_of (all_data (inputs_view t.inputs.items)) ≡ []
     → CombineEnded t.processor.vertex t.processor.policy.size t.processor.policy.slide t.processor.begun t.processor.start.items (inputs_view t.inputs.items) given

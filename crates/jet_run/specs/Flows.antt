@@ -26,7 +26,7 @@ IsFor (Map set) (any.Map t) = t.processor.set ≡ set
 IsFor (Filter test) (any.Filter t) = t.processor.test ≡ test
 IsFor (Flat legs) (any.Flat t) = map flat.leg_value t.processor.legs.items ≡ map leg_value legs
 IsFor (Join mode rekey fields) (any.Join t) = setting_of t.processor ≡ joining mode rekey fields
-IsFor (Accumulate size slide) (any.Frame t) = t.processor.policy.slide ≡ slide
+IsFor (Accumulate size slide) (any.Frame t) = t.processor.times.policy.slide ≡ slide
 IsFor Combine (any.Combine t) = Unit {0}
 IsFor kind t = ⊥
 

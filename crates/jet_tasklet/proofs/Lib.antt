@@ -2,6 +2,7 @@ pub mod AnyEnds
 pub mod AnyMeeting
 pub mod AnyRows
 pub mod AnyRests
+pub mod Begun
 pub mod Chaining
 pub mod Coming
 pub mod Crossing

@@ -5,6 +5,7 @@ use Rattle.jet_items.specs.Order.{Each, Sound, Closed as ClosedItems}
 use Rattle.jet_boxes.specs.Entry.{CallEntry}
 use Rattle.jet_stages.specs.Stamp.{IsNoResult}
 use Rattle.jet_tasklet.specs.declared.arrival.Arrival.{Arrival}
+use Rattle.jet_window.specs.LateEvents.{FrameSound}
 use Rattle.jet_tasklet.specs.declared.any.AnyTasklet.{AnyTasklet}
 use Rattle.jet_tasklet.specs.declared.any.AnyTasklet.TheVariants as any
 use Rattle.jet_tasklet.specs.Inputs.{inputs_view}
@@ -50,14 +51,15 @@ AnySoundIf behind t came = OfKind (λ P k u. EachFront (k.sound_if u.processor b
 abbrev pub AnyClosedIf : AnyTasklet → List Arrival → Type 0
 AnyClosedIf t came = OfKind (λ P k u. EachFront (k.closed_if u.processor) (told_of u came)) t
 
--- what each queue received is sound; the queues of a stamp received the events of files
+-- what each queue received is sound; the queues of a stamp received the events of files; events below the mark that a frame
+-- vertex began with are called behind
 abbrev pub IsFedSound : (ℕ → ℕ → Bool) → AnyTasklet → Type 0
 IsFedSound behind (any.Stamp t) = AreFromFiles t.processor.lag t.processor.grain behind (inputs_view t.inputs.items)
 IsFedSound behind (any.Map t) = EachReceived (Sound behind) (inputs_view t.inputs.items)
 IsFedSound behind (any.Filter t) = EachReceived (Sound behind) (inputs_view t.inputs.items)
 IsFedSound behind (any.Flat t) = EachReceived (Sound behind) (inputs_view t.inputs.items)
 IsFedSound behind (any.Join t) = EachReceived (Sound behind) (inputs_view t.inputs.items)
-IsFedSound behind (any.Frame t) = EachReceived (Sound behind) (inputs_view t.inputs.items)
+IsFedSound behind (any.Frame t) = EachReceived (FrameSound behind t.processor.times.begun) (inputs_view t.inputs.items)
 IsFedSound behind (any.Combine t) = EachReceived (Sound behind) (inputs_view t.inputs.items)
 
 -- what each queue received is closed; the queues of a stamp received no frame and no row

@@ -9,9 +9,10 @@ pub mod FrameCalls
 pub mod Framing
 pub mod Gathering
 pub mod Giving
-pub mod Inserting
 pub mod Members
 pub mod Moving
+pub mod Opening
+pub mod Placing
 pub mod Promising
 pub mod Reading
 pub mod Sliding
@@ -19,5 +20,6 @@ pub mod Staging
 pub mod Standing
 pub mod Stepping
 pub mod Tabling
+pub mod Timing
 pub mod Walking
 pub mod Windowing

@@ -43,7 +43,7 @@ int_equal_if x y false false e f h =
     let b : (y <ℤ x) → ⊥ = not_so (int_lt y x) (Decides-int_lt y x) f in
     by_lt_z x y (λ lt. absurd (a lt)) (λ le. by_lt_z y x (λ gt. absurd (b gt)) (λ ge. omega (arith, ints)))
 
-int_cmp_equal : (x y : ℤ) → int_cmp x y ≡ Equal → x ≡ y
+pub int_cmp_equal : (x y : ℤ) → int_cmp x y ≡ Equal → x ≡ y
 int_cmp_equal x y h = int_equal_if x y (int_lt x y) (int_lt y x) refl refl h
 
 pub place_equal : (x y : Place) → place_cmp x y ≡ Equal → x ≡ y
@@ -65,7 +65,7 @@ length_insert cmp k v [] = omega arith
 length_insert cmp k v (e ∷ es) = length_insert_if (cmp k e.0) k v e es (insert_entry cmp es k v) (length_insert cmp k v es)
 
 module _ {K : Type 0} (cmp : K → K → Ordering) (total_order : IsTotalOrder cmp) (equal : (x y : K) → cmp x y ≡ Equal → x ≡ y) where
-  none_found : (k : K) (es : List (K × AccValue)) → Each (λ (f : K × AccValue). cmp k f.0 ≡ Less) es → lookup (is_at (cmp k)) es ≡ None
+  pub none_found : (k : K) (es : List (K × AccValue)) → Each (λ (f : K × AccValue). cmp k f.0 ≡ Less) es → lookup (is_at (cmp k)) es ≡ None
   none_found k [] h = refl
   none_found k (e ∷ es) h = let here : cmp k e.0 ≡ Less = h.0 in rw here (none_found k es h.1)
 

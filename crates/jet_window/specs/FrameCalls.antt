@@ -7,17 +7,18 @@ use Rattle.jet_boxes.specs.Entry.{CallEntry}
 use Rattle.jet_boxes.specs.Held.{BoxView}
 use Rattle.jet_window.specs.declared.frame.FrameP.{FrameP}
 use Rattle.jet_window.specs.FrameStands.{FrameStands}
+use Rattle.jet_window.specs.FrameView.{held_by}
 
 -- what it stands for between two calls, and in the middle of a call for an entry
 abbrev pub Stands : FrameP → List CallEntry → List Item → Type 0
-Stands p taken given = FrameStands p.vertex p.policy.slide p.last p.held.entries taken taken given
+Stands p taken given = FrameStands p.vertex p.times.policy.slide p.times.begun p.times.last (held_by p) taken taken given
 
 abbrev pub Amid : FrameP → List CallEntry → CallEntry → List Item → Type 0
-Amid p taken entry given = FrameStands p.vertex p.policy.slide p.last p.held.entries (taken ++ entry ∷ []) taken given
+Amid p taken entry given = FrameStands p.vertex p.times.policy.slide p.times.begun p.times.last (held_by p) (taken ++ entry ∷ []) taken given
 
--- the same number and sizes
+-- the same number, sizes and mark to begin with
 abbrev pub Alike : FrameP → FrameP → Type 0
-Alike p q = (q.vertex ≡ p.vertex) × (q.policy ≡ p.policy)
+Alike p q = (q.vertex ≡ p.vertex) × (q.times.policy ≡ p.times.policy) × (q.times.begun ≡ p.times.begun)
 
 -- what a call does: what a call of each processor does
 abbrev pub FrameCall : FrameP → CallEntry → BoxView → Result Bool NoMemory → FrameP → BoxView → Type 0

@@ -1,5 +1,5 @@
 -- What a frame vertex gave and holds, against what it took.
-use Rattle.std.specs.Prelude.{◌≡◌, ℕ, ◌+◌, ◌≤◌, length, Bool, true, false, ◌||◌, ℤ, List, [], ◌∷◌, ◌++◌, map, Option, None}
+use Rattle.std.specs.Prelude.{◌≡◌, ℕ, ◌+◌, ◌≤◌, length, Bool, true, false, ◌||◌, ℤ, List, [], ◌∷◌, ◌++◌, map, Option}
 use Rattle.jet_items.specs.Bag.{SameBag}
 use Rattle.jet_items.specs.Frames.{FramesSum}
 use Rattle.jet_items.specs.Kinds.{events_of, sides_of, frames_of, rows_of, lates_of, late_events, marks_of}
@@ -10,7 +10,7 @@ use Rattle.jet_items.specs.declared.item.Item.TheVariants as item
 use Rattle.jet_boxes.specs.Entry.{CallEntry, Finish, NotDone, items_of}
 use Rattle.jet_window.specs.Idles.{idles_of}
 use Rattle.jet_window.specs.FrameTables.{Table, frame_of, FramesRise, IsKept}
-use Rattle.jet_window.specs.LateEvents.{late_items, kept_events}
+use Rattle.jet_window.specs.LateEvents.{late_items, kept_events, FrameSound, LateIsExcused}
 use Rattle.jet_window.specs.Tables.{Place}
 use Rattle.jet_window.specs.Taken.{is_due, last_mark, due_after, StageInput}
 
@@ -35,6 +35,8 @@ pub record FrameBag (vertex : ℕ) (slide : ℤ) (begun : Option ℤ) (held : Li
   -- held are only frames that end above the last mark and the one that it began with, and none right after the finish
   pub above : Each (λ f. (is_due begun f.end || is_due (last_mark taken) f.end) ≡ false) held
   pub ended : (front : List CallEntry) → taken ≡ front ++ Finish ∷ [] → held ≡ []
+  -- where what was taken is sound, each late item names an event that is behind or below the mark that it began with
+  pub excused : (behind : ℕ → ℕ → Bool) → Sound behind (items_of taken) → Each (LateIsExcused behind begun) given
   -- no event passes; rows, side rows and idle notes pass
   pub events : events_of given ≡ []
   pub rows : rows_of given ≡ rows_of (items_of taken)
@@ -65,24 +67,25 @@ NoEvent item.Done = Unit {0}
 
 -- what a frame vertex stands for, between calls and within one: within a call it gives only frames that it held, so the
 -- entry of an unfinished call is told and not counted as taken
-pub record FrameStands (vertex : ℕ) (slide : ℤ) (last : Option ℤ) (held : Table) (told taken : List CallEntry) (given : List Item) : Type 0 where
+pub record FrameStands (vertex : ℕ) (slide : ℤ) (begun last : Option ℤ) (held : Table) (told taken : List CallEntry) (given : List Item) : Type 0 where
   pub tie : last ≡ last_mark taken
-  pub behind_lates : (behind : ℕ → ℕ → Bool) → Sound behind (items_of taken) → Each (LateIsBehind behind) given
+  pub excused : (behind : ℕ → ℕ → Bool) → Sound behind (items_of taken) → Each (LateIsExcused behind begun) given
+  pub behind_lates : (behind : ℕ → ℕ → Bool) → FrameSound behind begun (items_of taken) → Each (LateIsBehind behind) given
   pub no_events : Each NoEvent given
   pub open_ended : Each NotDone given
   pub marks : marks_of given ≡ marks_of (items_of taken)
   pub marks_due : EachPair ClosedAfter (items_of taken) → Each (λ w. is_due last w ≡ true) (marks_of given)
   pub closed : EachPair ClosedAfter (items_of taken) → EachPair ClosedAfter given
-  pub lates : lates_of given ≡ late_items vertex slide None (items_of taken)
+  pub lates : lates_of given ≡ late_items vertex slide begun (items_of taken)
   pub own : List FrameValue
   pub passed : SameBag (frames_of given) (frames_of (items_of taken) ++ own)
   pub alone : frames_of (items_of taken) ≡ [] → frames_of given ≡ own
   pub own_closed : StageInput told → Each (λ f. due_after told f.end ≡ true) own
   pub rising : StageInput told → EachPair FramesRise (own ++ map (frame_of vertex) held)
   pub vertices : Each (λ f. f.vertex ≡ vertex) own
-  pub sums : FramesSum slide (own ++ map (frame_of vertex) held) (kept_events slide None (items_of taken))
-  pub few : length own + length held ≤ length (kept_events slide None (items_of taken))
-  pub above : Each (λ (f : Place × AccValue). is_due last f.0.0 ≡ false) held
+  pub sums : FramesSum slide (own ++ map (frame_of vertex) held) (kept_events slide begun (items_of taken))
+  pub few : length own + length held ≤ length (kept_events slide begun (items_of taken))
+  pub above : Each (λ (f : Place × AccValue). (is_due begun f.0.0 || is_due last f.0.0) ≡ false) held
   pub ended : (front : List CallEntry) → taken ≡ front ++ Finish ∷ [] → held ≡ []
   pub rows : rows_of given ≡ rows_of (items_of taken)
   pub sides : sides_of given ≡ sides_of (items_of taken)

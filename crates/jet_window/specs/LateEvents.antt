@@ -1,7 +1,8 @@
 -- Which events come late at a window vertex, and which are kept.
-use Rattle.std.specs.Prelude.{ℕ, Bool, false, ◌||◌, cond, ℤ, int_lt, List, [], ◌∷◌, ◌++◌, Option, Some, None}
+use Rattle.std.specs.Prelude.{◌≡◌, ℕ, Bool, true, false, ◌||◌, cond, ℤ, int_lt, List, [], ◌∷◌, ◌++◌, Option, Some, None}
 use Rattle.jet_items.specs.Grid.{floor_to}
 use Rattle.jet_items.specs.Kinds.{as_mark}
+use Rattle.jet_items.specs.Order.{Each, Sound}
 use Rattle.jet_items.specs.Values.{EventValue, LateValue}
 use Rattle.jet_items.specs.declared.item.Item.{Item}
 use Rattle.jet_items.specs.declared.item.Item.TheVariants as item
@@ -20,6 +21,39 @@ brought f last (x ∷ xs) = f last x ++ brought f (last_from last (as_mark x)) x
 -- late by the mark that a vertex began with, or by the last one that it took
 abbrev pub comes_late : ℤ → Option ℤ → Option ℤ → ℤ → Bool
 comes_late slide begun last ts = is_late slide begun ts || is_late slide last ts
+
+-- a time is below the mark that a vertex began with
+abbrev pub is_below : Option ℤ → ℤ → Bool
+is_below None ts = false
+is_below (Some w) ts = int_lt ts w
+
+-- a late item names an event that is behind or below that mark
+abbrev pub LateIsExcused : (ℕ → ℕ → Bool) → Option ℤ → Item → Type 0
+LateIsExcused behind begun (item.Event e) = Unit {0}
+LateIsExcused behind begun (item.Side s) = Unit {0}
+LateIsExcused behind begun (item.Frame f) = Unit {0}
+LateIsExcused behind begun (item.Row r) = Unit {0}
+LateIsExcused behind begun (item.Late l) = (behind l.event.part l.event.line || is_below begun l.event.ts) ≡ true
+LateIsExcused behind begun item.Idle = Unit {0}
+LateIsExcused behind begun (item.Mark m) = Unit {0}
+LateIsExcused behind begun item.Done = Unit {0}
+
+-- an event below that mark is called behind too
+abbrev pub BelowIsBehind : (ℕ → ℕ → Bool) → Option ℤ → Item → Type 0
+BelowIsBehind behind begun (item.Event e) = is_below begun e.ts ≡ true → behind e.part e.line ≡ true
+BelowIsBehind behind begun (item.Side s) = Unit {0}
+BelowIsBehind behind begun (item.Frame f) = Unit {0}
+BelowIsBehind behind begun (item.Row r) = Unit {0}
+BelowIsBehind behind begun (item.Late l) = Unit {0}
+BelowIsBehind behind begun item.Idle = Unit {0}
+BelowIsBehind behind begun (item.Mark m) = Unit {0}
+BelowIsBehind behind begun item.Done = Unit {0}
+
+-- what a frame vertex is to take, so that it gives what is sound: what is sound, where an event below the mark that it began
+-- with is called behind; where it began with none, whatever is sound
+pub record FrameSound (behind : ℕ → ℕ → Bool) (begun : Option ℤ) (xs : List Item) : Type 0 where
+  pub sound : Sound behind xs
+  pub below : Each (BelowIsBehind behind begun) xs
 
 -- an event that is late gives a late item of the vertex; a late item that was taken passes
 abbrev pub late_by : ℕ → ℤ → Option ℤ → Option ℤ → Item → List LateValue

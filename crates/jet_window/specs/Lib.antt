@@ -8,6 +8,7 @@ pub mod FrameCalls
 pub mod FrameLaws
 pub mod FrameStands
 pub mod FrameTables
+pub mod FrameView
 pub mod Held
 pub mod Idles
 pub mod InOrder
@@ -15,10 +16,12 @@ pub mod LateEvents
 pub mod Later
 pub mod Passing
 pub mod Plain
+pub mod Places
 pub mod PlainLaws
 pub mod Slides
 pub mod StageLaws
 pub mod Tables
 pub mod Taken
+pub mod Times
 pub mod WindowRows
 pub mod inner

@@ -14,11 +14,13 @@ mod driven;
 mod frame;
 mod held;
 mod laws;
+mod open_frames;
 mod ordered;
 mod plain;
 mod slide;
 mod stages;
 mod table;
+mod times;
 
 pub use combine::CombineP;
 pub use frame::FrameP;
@@ -31,6 +33,8 @@ pub use stages::{
     ordered_are_rows, whole_windows,
 };
 
+#[cfg(test)]
+mod frame_tests;
 #[cfg(test)]
 mod slide_tests;
 #[cfg(test)]

@@ -1,33 +1,51 @@
 // Rows that wait for a mark: they are held in order, so that the first is the least, and a mark or the end lets out those
 // up to it.
-ghost use Rattle.std.specs.Prelude.{◌≡◌, ◌∷◌, OnOk, OnErr, ◌<◌, Some, None, [], true, false, IfNone, IfSome, All, length, position};
+ghost use Rattle.std.specs.Prelude.{◌≡◌, true, false, ◌||◌, int_le, [], ◌∷◌, Some, None, OnOk, OnErr, IfNone, IfSome, All};
+ghost use Rattle.std.specs.List.Sorted.{IsPermutation};
 ghost use Rattle.std.specs.Ordering.{is_gt};
 ghost use Rattle.std.specs.Option.{option_map_or};
 ghost use Rattle.std.specs.Int.{int_max};
+ghost use Rattle.jet_items.specs.Ranges.{IsWithin, most_row_end};
 ghost use Rattle.jet_items.specs.Rows.{row_cmp};
+ghost use Rattle.jet_window.specs.Places.{rows_in, placed, IsHeldInOrder, HoldsMore, HoldsSame, ComesFirst};
 
-use jet_items::{Mark, NoMemory, Row};
+use jet_items::{Acc, Key, Mark, NoMemory, Row};
 use std::alloc::Global;
-use std::cmp::Ordering;
+use std::collections::BTreeMap;
+use std::collections::btree_map::Entry;
 use std::marker::Model;
 
+// Where a row stands: by end, then vertex, then key bytes.
+type Place = (i64, u8, Key);
+
+// The rows of one place, of which a job that counts right has one: the first that came, and those that came later.
+#[derive(Drop)]
+struct Alike {
+    first: Acc,
+    more: Vec<Acc>,
+}
+
 /// Rows that are held until a mark lets them out, in the order of end, vertex and key bytes.
+///
+/// A row is put and given in time logarithmic in the number of rows held. Rows of one end, vertex and key are all held,
+/// and given one after another in no order that is promised.
 #[derive(Drop)]
 pub struct OrderedRows {
-    rows: Vec<Row>,
+    alloc: Global,
+    rows: BTreeMap<Place, Alike>,
     passed: Option<i64>,
     closed: bool,
 }
 
 impl Model for OrderedRows {
     ghost use Rattle.jet_window.specs.Held.{WaitingRows};
-    ghost use Rattle.jet_window.specs.InOrder.{IsInOrder};
+    ghost use Rattle.jet_window.specs.Places.{rows_in, IsHeldInOrder};
 
     ghost Value = { WaitingRows };
 
-    ghost view = { λ o. record { rows = o.rows.items; passed = o.passed; closed = o.closed } };
+    ghost view = { λ o. record { rows = rows_in o.rows.entries; passed = o.passed; closed = o.closed } };
 
-    ghost invariant = { λ o. IsInOrder o.rows.items };
+    ghost invariant = { λ o. IsHeldInOrder o.rows.entries };
 }
 
 impl OrderedRows {
@@ -40,7 +58,8 @@ impl OrderedRows {
         ensures { result ≡ record { rows = []; passed = None; closed = false } }
     {
         OrderedRows {
-            rows: Vec::new(alloc),
+            alloc,
+            rows: BTreeMap::new(alloc),
             passed: None,
             closed: false,
         }
@@ -52,8 +71,7 @@ impl OrderedRows {
         ensures order { IsInOrder self.new.rows }
         ensures err { OnErr result (self.new ≡ self.old) }
     {
-        let at = first_greater(&self.rows, &row).unwrap_or(self.rows.len());
-        self.rows.insert(at, row)?;
+        add(self.alloc, &mut self.rows, &row)?;
         Ok(())
     }
 
@@ -65,12 +83,11 @@ impl OrderedRows {
         ensures none { IfNone result (All (λ row. is_let_out self.old row ≡ false) self.old.rows) }
         ensures kept { IfNone result (self.new ≡ self.old) }
     {
-        let first = self.rows.first()?;
-        if self.closed || self.passed.is_some_and(|t| first.end <= t) {
-            Some(self.rows.remove(0))
-        } else {
-            None
+        let (place, _) = self.rows.first_key_value()?;
+        if !is_out(self.closed, self.passed, place.0) {
+            return None;
         }
+        take_first(&mut self.rows)
     }
 
     /// Lets out the rows that end at most at the mark, also those that are put later.
@@ -90,12 +107,59 @@ impl OrderedRows {
     }
 }
 
-// Where the first row stands that comes after this one.
-fn first_greater(rows: &[Row], row: &Row) -> Option<usize>
-    ensures place { result ≡ position (λ held. is_gt (row_cmp held row.now)) rows.now }
-    ensures bound { IfSome result (λ at. at < length rows.now) }
+// Holds one more row.
+fn add(alloc: Global, rows: &mut BTreeMap<Place, Alike>, row: &Row) -> Result<(), NoMemory>
+    requires { IsHeldInOrder rows.old.entries }
+    ensures ok { OnOk result (HoldsMore row.now rows.old.entries rows.new.entries) }
+    ensures order { IsHeldInOrder rows.new.entries }
+    ensures err { OnErr result (HoldsSame rows.old.entries rows.new.entries) }
 {
-    rows.iter().position(|held| compare(held, row).is_gt())
+    match rows.entry((row.end, row.vertex, row.key))? {
+        Entry::Occupied(entry) => entry.into_mut().more.push(row.acc)?,
+        Entry::Vacant(entry) => {
+            let more = Vec::new(alloc);
+            let _ = entry.insert(Alike {
+                first: row.acc,
+                more,
+            });
+        }
+    }
+    Ok(())
+}
+
+// Takes the first row out.
+fn take_first(rows: &mut BTreeMap<Place, Alike>) -> Option<Row>
+    requires { IsHeldInOrder rows.old.entries }
+    ensures taken { IfSome result (λ row. ComesFirst row rows.old.entries rows.new.entries) }
+    ensures order { IfSome result (λ row. IsHeldInOrder rows.new.entries) }
+    ensures none { IfNone result (rows.old.entries ≡ []) }
+{
+    let mut first = rows.first_entry()?;
+    let place = *first.key();
+    match first.get_mut().more.pop() {
+        Some(acc) => Some(row_at(place, acc)),
+        None => Some(row_at(place, first.remove().first)),
+    }
+}
+
+fn row_at(place: Place, acc: Acc) -> Row
+    requires { IsWithin most_row_end place.0 }
+    ensures { result ≡ placed place acc }
+{
+    let (end, vertex, key) = place;
+    Row {
+        vertex,
+        end,
+        key,
+        acc,
+    }
+}
+
+// Whether rows that end here were let out.
+fn is_out(closed: bool, passed: Option<i64>, end: i64) -> bool
+    ensures { result ≡ (closed || option_map_or (λ t. int_le end t) passed false) }
+{
+    closed || passed.is_some_and(|t| end <= t)
 }
 
 fn greater(before: Option<i64>, t: i64) -> i64
@@ -105,14 +169,4 @@ fn greater(before: Option<i64>, t: i64) -> i64
         Some(b) => b.max(t),
         None => t,
     }
-}
-
-// The order of rows: by end, then vertex, then key bytes.
-fn compare(a: &Row, b: &Row) -> Ordering
-    ensures { result ≡ row_cmp a.now b.now }
-{
-    a.end
-        .cmp(&b.end)
-        .then(a.vertex.cmp(&b.vertex))
-        .then(a.key.cmp(&b.key))
 }

@@ -54,6 +54,33 @@ fn rows_are_let_out_in_order(rt: HostRuntime) -> Result<(), Fail> {
     Ok(())
 }
 
+// Three rows of one place, and one of the next.
+fn alike(alloc: Global) -> Option<OrderedRows> {
+    let a = Key::read(b"a", 24).ok()?;
+    let b = Key::read(b"b", 24).ok()?;
+    let mut held = OrderedRows::new(alloc);
+    held.put(row(0, 5, b)).ok()?;
+    for _ in 0..3 {
+        held.put(row(0, 5, a)).ok()?;
+    }
+    held.close();
+    Some(held)
+}
+
+#[test]
+fn rows_of_one_place_are_all_given(rt: HostRuntime) -> Result<(), Fail> {
+    if let Some(mut held) = alike(rt.alloc()) {
+        for name in [b"a", b"a", b"a", b"b"] {
+            assert_eq!(rt;
+                held.next().map(|row| row.key.bytes() == name.as_slice()),
+                Some(true)
+            );
+        }
+        assert_eq!(rt; held.next().is_none(), true);
+    }
+    Ok(())
+}
+
 // The rows of five events: those that the mark 5 closes, and those that are left.
 fn telemetry(alloc: Global) -> Option<(Vec<Row>, Vec<Row>)> {
     let a = Key::read(b"a", 24).ok()?;

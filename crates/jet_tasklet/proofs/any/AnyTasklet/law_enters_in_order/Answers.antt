@@ -8,6 +8,7 @@ use Rattle.jet_tasklet.specs.Any.{AnyKeeps}
 use Rattle.jet_tasklet.specs.AnyOrder.{AnyClosedIf, AnySoundIf}
 use Rattle.jet_tasklet.specs.Inputs.{inputs_view}
 use Rattle.jet_tasklet.specs.Views.{waiting}
+use Rattle.jet_tasklet.proofs.Begun.{frame_told}
 use Rattle.jet_tasklet.proofs.Stamping.{from_files, told_each}
 use Rattle.jet_tasklet.proofs.any.AnyTasklet.law_enters_in_order.Goals as goal
 
@@ -50,10 +51,13 @@ returns-in-Join c = record {
 }
 
 pub returns-in-Frame : goal.returns-in-Frame
-returns-in-Frame c = record {
-  sound = subst EntersSound (sym c.in-Frame.is) (λ behind came gave k all. c.law_enters_in_order-in-Frame.ensures.sound behind came gave k (c.law_told_in_order-in-Frame.ensures.sound behind came gave k all));
-  closed = subst EntersClosed (sym c.in-Frame.is) (λ came gave k all. c.law_enters_in_order-in-Frame.ensures.closed came gave k (c.law_told_in_order-in-Frame.ensures.closed came gave k all));
-}
+returns-in-Frame c =
+    let t = c.in-Frame.tasklet in
+    record {
+      sound = subst EntersSound (sym c.in-Frame.is) (λ behind came gave k all. c.law_enters_in_order-in-Frame.ensures.sound behind came gave k
+          (frame_told behind t.processor.times.begun (inputs_view t.inputs.items) t.coalescer t.step came k.takes_in (c.law_told_in_order-in-Frame.ensures.sound behind came gave k) all));
+      closed = subst EntersClosed (sym c.in-Frame.is) (λ came gave k all. c.law_enters_in_order-in-Frame.ensures.closed came gave k (c.law_told_in_order-in-Frame.ensures.closed came gave k all));
+    }
 
 pub returns-in-Combine : goal.returns-in-Combine
 returns-in-Combine c = record {

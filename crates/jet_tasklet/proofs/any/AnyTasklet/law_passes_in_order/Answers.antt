@@ -1,5 +1,7 @@
 use Rattle.std.proofs.Common.{sym, subst}
+use Rattle.jet_tasklet.specs.Inputs.{inputs_view}
 use Rattle.jet_tasklet.proofs.AnyEnds.{PassesClosed, PassesSound, TellsClosed, TellsSound}
+use Rattle.jet_tasklet.proofs.Begun.{frame_told}
 use Rattle.jet_tasklet.proofs.any.AnyTasklet.law_passes_in_order.Goals as goal
 
 pub returns-in-Stamp-clause-sound : goal.returns-in-Stamp-clause-sound
@@ -33,7 +35,11 @@ pub returns-in-Join-clause-closed : goal.returns-in-Join-clause-closed
 returns-in-Join-clause-closed c = λ came gave k fed. c.law_sends_in_order.ensures.closed came gave k (subst TellsClosed (sym c.in-Join.is) c.law_told_in_order-in-Join.ensures.closed came gave k fed)
 
 pub returns-in-Frame-clause-sound : goal.returns-in-Frame-clause-sound
-returns-in-Frame-clause-sound c = λ behind came gave k fed. c.law_sends_in_order.ensures.sound behind came gave k (subst TellsSound (sym c.in-Frame.is) c.law_told_in_order-in-Frame.ensures.sound behind came gave k fed)
+returns-in-Frame-clause-sound c =
+    let t = c.in-Frame.tasklet in
+    λ behind came gave k fed. c.law_sends_in_order.ensures.sound behind came gave k
+    (subst TellsSound (sym c.in-Frame.is) (λ behind came gave k fed. frame_told behind t.processor.times.begun (inputs_view t.inputs.items) t.coalescer t.step came k.takes_in
+    (c.law_told_in_order-in-Frame.ensures.sound behind came gave k) fed) behind came gave k fed)
 
 pub returns-in-Frame-clause-closed : goal.returns-in-Frame-clause-closed
 returns-in-Frame-clause-closed c = λ came gave k fed. c.law_sends_in_order.ensures.closed came gave k (subst TellsClosed (sym c.in-Frame.is) c.law_told_in_order-in-Frame.ensures.closed came gave k fed)

@@ -1,17 +1,15 @@
 use Rattle.std.proofs.Common.{◌≡◌, length}
-use Rattle.jet_window.specs.FrameTables.{IsKept}
 use Rattle.jet_window.specs.inner.FrameMoves.{Moved}
+use Rattle.jet_window.specs.FrameView.{held_by}
 use Rattle.jet_window.proofs.frame.FrameP.give_closed.Given as goal
 
-abbrev pub invariant-loop-at : goal.invariant-loop-at
-invariant-loop-at l = record {
+abbrev pub invariant-loop-frame : goal.invariant-loop-frame
+invariant-loop-frame l = record {
   vertex : l.self.vertex ≡ l.initial.self.vertex;
-  policy : l.self.policy ≡ l.initial.self.policy;
-  last : l.self.last ≡ l.initial.self.last;
+  times : l.self.times ≡ l.initial.self.times;
   room : l.out.room ≡ l.initial.out.room;
-  kept : IsKept l.self.held.entries;
-  moved : Moved l.initial.self.vertex l.t l.initial.self.held.entries l.initial.out.items l.self.held.entries l.out.items;
+  moved : Moved l.initial.self.vertex l.t (held_by l.initial.self) l.initial.out.items (held_by l.self) l.out.items;
 }
 
-abbrev pub decreases-loop-at : goal.decreases-loop-at
-decreases-loop-at l = length l.self.held.entries
+abbrev pub decreases-loop-frame : goal.decreases-loop-frame
+decreases-loop-frame l = length (held_by l.self)

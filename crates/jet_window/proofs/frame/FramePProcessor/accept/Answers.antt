@@ -9,7 +9,6 @@ use Rattle.jet_items.specs.Rows.{first_value}
 use Rattle.jet_items.specs.Totals.{one}
 use Rattle.jet_items.specs.Frames.{frame_end}
 use Rattle.jet_items.specs.Ranges.{IsWithin, most_time, most_frame_end}
-use Rattle.jet_items.proofs.GridLemmas.{rem_bounds}
 use Rattle.jet_window.specs.FrameTables.{joined_in}
 use Rattle.jet_window.specs.declared.frame.FrameP.{FrameP}
 use Rattle.jet_window.specs.FrameCalls.{Stands, Amid, Alike}
@@ -27,37 +26,33 @@ one-requires c =
     let b = within.1 in
     (omega (arith, ints), omega (arith, ints))
 
-pub returns-then-late-clause-call : goal.returns-then-late-clause-call
-returns-then-late-clause-call c =
+pub returns-then-is_late-clause-call : goal.returns-then-is_late-clause-call
+returns-then-is_late-clause-call c =
     let fits : FitsSigned w64 c.event.inside.ts = search rules in
-    let tested = simp to_z-of_z at c.late.ensures in
+    let tested = simp to_z-of_z at c.is_late.ensures.value in
     let e : EventValue = record { part = c.event.inside.part; line = c.event.inside.line; ts = c.event.inside.ts; key = c.event.inside.key; v = c.event.inside.v } in
     let is : item.Event e ≡ c.args.item.now = ap item.Event c.event.view_is ∙ sym c.in-Event.is in
-    subst (λ (x : Item). Call Stands Amid Alike false c.args.self.now (Given c.args._port c.args._queue x) c.args.out.now (Ok c.put-then-late.result) c.args.self.now c.put-then-late.new.out) is
-    (late_call c.args.self.now c.args._port c.args._queue e c.args.out.now c.put-then-late.new.out c.put-then-late.result c.frame_end-end.ensures.policy.slide_low (sym tested ∙ c.if-late.true) c.put-then-late.ensures.yes c.put-then-late.ensures.none c.put-then-late.ensures.full)
+    subst (λ (x : Item). Call Stands Amid Alike false c.args.self.now (Given c.args._port c.args._queue x) c.args.out.now (Ok c.put-then-is_late.result) c.args.self.now c.put-then-is_late.new.out) is
+    (late_call c.args.self.now c.args._port c.args._queue e c.args.out.now c.put-then-is_late.new.out c.put-then-is_late.result c.is_late.ensures.policy.slide_low (sym tested ∙ c.if-is_late.true) c.put-then-is_late.ensures.yes c.put-then-is_late.ensures.none c.put-then-is_late.ensures.full)
 
 pub returns-clause-call : goal.returns-clause-call
 returns-clause-call c =
     let fits : FitsSigned w64 c.event.inside.ts = search rules in
     let fits_end : FitsSigned w64 c.frame_end-end.result = record { sfits = c.frame_end-end.type_inv } in
-    let tested = simp to_z-of_z at c.late.ensures in
+    let tested = simp to_z-of_z at c.is_late.ensures.value in
     let e : EventValue = record { part = c.event.inside.part; line = c.event.inside.line; ts = c.event.inside.ts; key = c.event.inside.key; v = c.event.inside.v } in
     let is : item.Event e ≡ c.args.item.now = ap item.Event c.event.view_is ∙ sym c.in-Event.is in
-    let value : c.frame_end-end.result ≡ frame_end c.args.self.now.policy.slide c.event.inside.ts = simp to_z-of_z at c.frame_end-end.ensures.value in
+    let end : ℤ = frame_end c.args.self.now.times.policy.slide c.event.inside.ts in
+    let value : c.frame_end-end.result ≡ end = simp to_z-of_z at c.frame_end-end.ensures.value in
+    let range : IsWithin most_frame_end end = subst (IsWithin most_frame_end) value c.frame_end-end.ensures.range in
     let ok = simp to_z-of_z at c.in_ok-keep.ensures.ok in
     let fits_v : FitsSigned w64 (get_or c.event.inside.v 0 (pos 0)) = search rules in
     let one_is : c.one.result ≡ one (first_value e) = simp to_z-of_z at c.one.ensures.value in
-    let bounds = rem_bounds c.event.inside.ts c.args.self.now.policy.slide c.frame_end-end.ensures.policy.slide_low in
-    let most = c.frame_end-end.ensures.policy.slide_high in
-    let within : IsWithin most_time c.event.inside.ts = c.event.invariant.0 in
-    let a = within.0 in
-    let b = within.1 in
-    let range : IsWithin most_frame_end (frame_end c.args.self.now.policy.slide c.event.inside.ts) = (omega (arith, ints, bounds), omega (arith, ints, bounds)) in
-    let s : FrameP = record c.args.self.now { held = c.keep.new.held } in
-    let held : c.keep.new.held.entries ≡ joined_in c.args.self.now.held.entries (frame_end c.args.self.now.policy.slide c.event.inside.ts, c.event.inside.key) (one (first_value e)) =
-    ok ∙ (ap (λ (z : ℤ). joined_in c.args.self.now.held.entries (z, c.event.inside.key) c.one.result) value ∙ ap (λ (x : AccValue). joined_in c.args.self.now.held.entries (frame_end c.args.self.now.policy.slide c.event.inside.ts, c.event.inside.key) x) one_is) in
+    let s : FrameP = record c.args.self.now { times = c.frame_end-end.new.self; held = c.keep.new.self } in
+    let held : c.keep.new.self ≡ joined_in c.args.self.now.held (end, c.event.inside.key) (one (first_value e)) =
+    ok ∙ (ap (λ (z : ℤ). joined_in c.args.self.now.held (z, c.event.inside.key) c.one.result) value ∙ ap (λ (x : AccValue). joined_in c.args.self.now.held (end, c.event.inside.key) x) one_is) in
     subst (λ (x : Item). Call Stands Amid Alike false c.args.self.now (Given c.args._port c.args._queue x) c.args.out.now (Ok true) s c.args.out.now) is
-    (kept_call c.args.self.now s c.args._port c.args._queue e c.args.out.now c.frame_end-end.ensures.policy.slide_low (sym tested ∙ c.if-late.false) range refl refl refl held)
+    (kept_call c.args.self.now s c.args._port c.args._queue e c.args.out.now c.is_late.ensures.policy.slide_low (sym tested ∙ c.if-is_late.false) range refl c.frame_end-end.ensures.same held)
 
 pub returns-in_err-keep-clause-call : goal.returns-in_err-keep-clause-call
-returns-in_err-keep-clause-call c = err_call c.args.self.now _ (Given c.args._port c.args._queue c.args.item.now) c.args.out.now c.from_residual.result c.from_residual.ensures.0 refl refl refl c.in_err-keep.ensures.err
+returns-in_err-keep-clause-call c = err_call c.args.self.now _ (Given c.args._port c.args._queue c.args.item.now) c.args.out.now c.from_residual.result c.from_residual.ensures.0 refl c.frame_end-end.ensures.same c.in_err-keep.ensures.err

@@ -13,7 +13,7 @@ returns-then-not-give_closed-clause-call c =
     let fits : FitsSigned w64 c.mark.inside.t = search rules in
     let moved = simp to_z-of_z at c.give_closed.ensures.moved in
     moved_call c.args.self.now c.give_closed.new.self c.mark.inside.t (MarkTold c.args.mark) c.args.out.now c.give_closed.new.out moved (λ taken e le. told_due taken c.args.mark e (subst (λ (t : ℤ). e ≤ℤ t) c.mark.view_is le))
-    c.give_closed.ensures.vertex c.give_closed.ensures.policy c.give_closed.ensures.last c.give_closed.ensures.room (c.give_closed.ensures.full c.if-not-give_closed.true)
+    c.give_closed.ensures.vertex c.give_closed.ensures.times c.give_closed.ensures.room (c.give_closed.ensures.full c.if-not-give_closed.true)
 
 pub returns-then-not-put-clause-call : goal.returns-then-not-put-clause-call
 returns-then-not-put-clause-call c =
@@ -21,7 +21,7 @@ returns-then-not-put-clause-call c =
     let moved = simp to_z-of_z at c.give_closed.ensures.moved in
     subst (λ (z : BoxView). Call Stands Amid Alike false c.args.self.now (MarkTold c.args.mark) c.args.out.now (Ok false) c.give_closed.new.self z) (sym (c.put.ensures.none c.if-not-put.true))
     (moved_call c.args.self.now c.give_closed.new.self c.mark.inside.t (MarkTold c.args.mark) c.args.out.now c.give_closed.new.out moved (λ taken e le. told_due taken c.args.mark e (subst (λ (t : ℤ). e ≤ℤ t) c.mark.view_is le))
-    c.give_closed.ensures.vertex c.give_closed.ensures.policy c.give_closed.ensures.last c.give_closed.ensures.room (c.put.ensures.full c.if-not-put.true))
+    c.give_closed.ensures.vertex c.give_closed.ensures.times c.give_closed.ensures.room (c.put.ensures.full c.if-not-put.true))
 
 pub returns-clause-call : goal.returns-clause-call
 returns-clause-call c =
@@ -29,6 +29,6 @@ returns-clause-call c =
     let moved = simp to_z-of_z at c.give_closed.ensures.moved in
     let stops = simp to_z-of_z at (c.give_closed.ensures.stops c.if-not-give_closed.false) in
     mark_call c.args.self.now c.give_closed.new.self _ c.args.mark c.args.out.now c.give_closed.new.out c.put.new.out
-    (subst (λ (t : ℤ). Moved c.args.self.now.vertex t c.args.self.now.held.entries c.args.out.now.items c.give_closed.new.self.held.entries c.give_closed.new.out.items) c.mark.view_is moved)
-    c.give_closed.ensures.vertex c.give_closed.ensures.policy c.give_closed.ensures.last c.give_closed.ensures.room
-    (subst (λ (t : ℤ). StopsAbove t c.give_closed.new.self.held.entries) c.mark.view_is stops) refl refl refl refl (c.put.ensures.yes c.if-not-put.false)
+    (subst (λ (t : ℤ). Moved c.args.self.now.vertex t c.args.self.now.held c.args.out.now.items c.give_closed.new.self.held c.give_closed.new.out.items) c.mark.view_is moved)
+    c.give_closed.ensures.vertex c.give_closed.ensures.times c.give_closed.ensures.room
+    (subst (λ (t : ℤ). StopsAbove t c.give_closed.new.self.held) c.mark.view_is stops) refl c.take.ensures refl (c.put.ensures.yes c.if-not-put.false)
