@@ -38,8 +38,8 @@ mod frame_tests;
 #[cfg(test)]
 mod slide_tests;
 #[cfg(test)]
-mod tests_stages;
-#[cfg(test)]
 mod start_tests;
 #[cfg(test)]
 mod tests;
+#[cfg(test)]
+mod tests_stages;
