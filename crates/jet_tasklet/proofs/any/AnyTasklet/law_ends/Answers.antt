@@ -1,6 +1,6 @@
 use Rattle.std.proofs.Common.{sym, subst}
 use Rattle.jet_tasklet.proofs.AnyEnds.{EndsSo}
-use Rattle.jet_tasklet.proofs.any.AnyTasklet.ends.Goals as goal
+use Rattle.jet_tasklet.proofs.any.AnyTasklet.law_ends.Goals as goal
 
 pub returns-in-Stamp : goal.returns-in-Stamp
 returns-in-Stamp c = subst EndsSo (sym c.in-Stamp.is) c.law_ends.ensures
