@@ -13,7 +13,7 @@ use Rattle.jet_items.specs.Bag.{SameBag, all_of}
 use Rattle.jet_items.specs.Frames.{FramesSum}
 use Rattle.jet_items.specs.Joins.{Joining, joined}
 use Rattle.jet_items.specs.Kinds.{events_of, sides_of, frames_of, late_events, others_of}
-use Rattle.jet_items.specs.Values.{EventValue}
+use Rattle.jet_items.specs.Values.{EventValue, SideValue}
 use Rattle.jet_items.proofs.Bags.{SameBag-sym, SameBag-trans, SameBag-map, SameBag-filter, SameBag-flat_map, SameBag-all_of}
 use Rattle.jet_boxes.specs.declared.port.Port.TheVariants.{Stream, Build}
 use Rattle.jet_expr.specs.Term.{Term}
@@ -33,10 +33,9 @@ use Rattle.jet_tasklet.specs.declared.any.AnyTasklet.TheVariants as any
 use Rattle.jet_tasklet.specs.Merging.{data_received}
 use Rattle.jet_run.specs.Ended.{all_data, EndedByKind}
 use Rattle.jet_tasklet.specs.Views.{ins}
-use Rattle.jet_run.specs.Flows.{IsFor, AreFed, GiveFlow}
+use Rattle.jet_run.specs.Flows.{events_at, IsFor, AreFed, GiveFlow}
 use Rattle.jet_run.specs.inner.Spread.{IsSpread}
-use Rattle.jet_run.proofs.Bags.{flat_bags}
-use Rattle.jet_run.proofs.Ended.{joined_bags}
+use Rattle.jet_run.proofs.Owners.{over_all}
 
 -- ---- what is made of each event by itself
 pub spread_flat : (f : EventValue → List EventValue) → IsSpread (flat_map f)
@@ -214,12 +213,11 @@ module _ (files : Contents) (dag : Dag) (name : List ℕ) (n : ℕ) (tasklets : 
       SameBag-trans (subst (λ (es : List EventValue). SameBag (all_of n gave) es) whole all) (SameBag-sym rule)
   at_kind (Join mode rekey fields) is ended fed rule keys =
       let j : Joining = joining mode rekey fields in
-      let f : EventValue → List EventValue = joined j (build_rows files dag name) in
-      let stream : ℕ → List EventValue = λ i. events_of (data_received Stream (ins (tasklets i))) in
-      let each : (i : ℕ) → i < n → SameBag (gave i) (flat_map f (stream i)) = λ i lt.
-      SameBag-trans (join_each mode rekey fields (tasklets i) (given i) (is i lt) (ended i lt) (fed.1 i lt))
-      (flat_bags (joined j (sides_of (data_received Build (ins (tasklets i))))) f (joined_bags j (sides_of (data_received Build (ins (tasklets i)))) (build_rows files dag name) (fed.2 i lt)) (stream i)) in
-      SameBag-trans (together (flat_map f) (spread_flat f) n gave stream (incoming files dag name) each fed.0) (SameBag-sym rule)
+      let rows : List SideValue = build_rows files dag name in
+      let stream : ℕ → List EventValue = λ i. events_at (tasklets i) in
+      let each : (i : ℕ) → i < n → SameBag (gave i) (flat_map (joined j rows) (stream i)) = λ i lt.
+      SameBag-trans (join_each mode rekey fields (tasklets i) (given i) (is i lt) (ended i lt) (fed.1 i lt)) (over_all j n tasklets rows fed.2 i lt) in
+      SameBag-trans (together (flat_map (joined j rows)) (spread_flat (joined j rows)) n gave stream (incoming files dag name) each fed.0) (SameBag-sym rule)
   at_kind (Accumulate size slide) is ended fed rule keys =
       let one = below {X = List EventValue} (λ i kept. SameBag (came i) (late_events (given i) ++ kept) × FramesSum slide (frames_of (given i)) kept) [] n (λ i lt. let k = frame_each size slide (tasklets i) (given i) (is i lt) (ended i lt) (fed.1 i lt) in (k.kept, (k.parts, k.sums))) in
       record {

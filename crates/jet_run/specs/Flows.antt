@@ -1,10 +1,11 @@
 -- What all tasklets of a vertex gave together, against the flow of the job.
-use Rattle.std.specs.Prelude.{◌≡◌, ℕ, ◌<◌, ℤ, List, [], ◌++◌, map}
+use Rattle.std.specs.Prelude.{◌≡◌, ℕ, ◌<◌, ◌==◌, ◌⊎◌, ℤ, List, [], ◌++◌, map, filter}
 use Rattle.jet_items.specs.declared.item.Item.{Item}
 use Rattle.jet_items.specs.Bag.{SameBag, all_of}
 use Rattle.jet_items.specs.Frames.{FramesSum}
 use Rattle.jet_items.specs.Kinds.{events_of, sides_of, frames_of, late_events, others_of}
-use Rattle.jet_items.specs.Values.{EventValue}
+use Rattle.jet_items.specs.Order.{Each}
+use Rattle.jet_items.specs.Values.{EventValue, SideValue}
 use Rattle.jet_boxes.specs.declared.port.Port.TheVariants.{Stream, Build}
 use Rattle.jet_join.specs.Calls.{setting_of}
 use Rattle.jet_stages.specs.Flat as flat
@@ -34,8 +35,28 @@ IsFor kind t = ⊥
 abbrev pub Receive : ℕ → (ℕ → AnyTasklet) → List EventValue → Type 0
 Receive n tasklets events = SameBag (all_of n (λ i. events_of (all_data (ins (tasklets i))))) events
 
+-- the side rows that came to a tasklet of a join, by its build queues
+abbrev pub rows_at : AnyTasklet → List SideValue
+rows_at t = sides_of (data_received Build (ins t))
+
+-- the events that came to it, by its stream queues
+abbrev pub events_at : AnyTasklet → List EventValue
+events_at t = events_of (data_received Stream (ins t))
+
+-- of these side rows each came to the one of n tasklets that owns its key, and so did each event
+pub record AreByOwner (owner : List ℕ → ℕ) (n : ℕ) (tasklets : ℕ → AnyTasklet) (rows : List SideValue) : Type 0 where
+  pub sides : (i : ℕ) → i < n → SameBag (rows_at (tasklets i)) (filter (λ s. owner s.key == i) rows)
+  pub events : (i : ℕ) → i < n → Each (λ e. owner e.key ≡ i) (events_at (tasklets i))
+
+-- the tasklets of a join have the rows that their events ask for: each has all, or they own keys
+abbrev pub HaveRows : ℕ → (ℕ → AnyTasklet) → List SideValue → Type 0
+HaveRows n tasklets rows =
+    ((i : ℕ) → i < n → SameBag (rows_at (tasklets i)) rows)
+    ⊎ ((owner : List ℕ → ℕ) × AreByOwner owner n tasklets rows)
+
 -- what came to the n tasklets of a vertex: to a source the events of its files, to a side vertex no event, and to any other
--- all that flows into it, however it was dealt; to each of a join all side rows, by its build queues; to a window events alone
+-- all that flows into it, however it was dealt; to those of a join the side rows too, all to each or by key, and no event by
+-- a build queue; to a window events alone
 abbrev pub AreFed : Contents → Dag → List ℕ → Kind → ℕ → (ℕ → AnyTasklet) → Type 0
 AreFed files dag name (Source names lag) n tasklets = Receive n tasklets (files.events name)
 AreFed files dag name (Side file) n tasklets = Receive n tasklets []
@@ -43,9 +64,9 @@ AreFed files dag name (Map set) n tasklets = Receive n tasklets (incoming files 
 AreFed files dag name (Filter test) n tasklets = Receive n tasklets (incoming files dag name)
 AreFed files dag name (Flat legs) n tasklets = Receive n tasklets (incoming files dag name)
 AreFed files dag name (Join mode rekey fields) n tasklets =
-    SameBag (all_of n (λ i. events_of (data_received Stream (ins (tasklets i))))) (incoming files dag name)
+    SameBag (all_of n (λ i. events_at (tasklets i))) (incoming files dag name)
     × ((i : ℕ) → i < n → events_of (data_received Build (ins (tasklets i))) ≡ [])
-    × ((i : ℕ) → i < n → SameBag (sides_of (data_received Build (ins (tasklets i)))) (build_rows files dag name))
+    × HaveRows n tasklets (build_rows files dag name)
 AreFed files dag name (Accumulate size slide) n tasklets =
     Receive n tasklets (incoming files dag name)
     × ((i : ℕ) → i < n → others_of (all_data (ins (tasklets i))) ≡ [])
