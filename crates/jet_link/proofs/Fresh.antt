@@ -46,5 +46,6 @@ new_sender l stock packets acks s se pe ae =
       n = ap (λ (x : StockValue). x.n) se;
       room = ap (λ (x : StockValue). x.room) se;
       work_room = λ q none. absurd (cc);
+      spelled = λ q none. absurd (cc);
       between = omega (arith, ap length pe, ap length ae);
     }

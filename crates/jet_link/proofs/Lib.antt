@@ -7,5 +7,6 @@ pub mod Pushing
 pub mod Receipt
 pub mod RecvEnds
 pub mod SendEnds
+pub mod Spelled
 pub mod Taking
 pub mod Written

@@ -11,7 +11,7 @@ use Rattle.jet_link.specs.declared.ack.Ack.{Ack}
 use Rattle.jet_link.specs.declared.counts.Counts.{Counts}
 use Rattle.jet_link.specs.declared.shape.LinkShape.{LinkShape}
 use Rattle.jet_link.specs.Shape.{IsShape}
-use Rattle.jet_link.specs.Link.{PacketView, no_packet, AckView, kept, less, IsHonest, SendState, SendsRight, in_flight, room_left, whole_sent, whole_acked}
+use Rattle.jet_link.specs.Link.{PacketView, no_packet, AckView, kept, less, IsHonest, SendState, SendsRight, in_flight, room_left, whole_sent, whole_acked, whole_limit}
 use Rattle.jet_link.specs.Ends.{packet_view, view_of, IsSendEnd}
 use Rattle.jet_link.proofs.Counting.{bytes_front, bytes_push}
 use Rattle.jet_link.proofs.Ends.{offer_more}
@@ -52,6 +52,10 @@ module _ (l : LinkShape) where
     whole : whole_sent after ≡ whole_sent s + p.size
     whole = bytes_push s.pushed p
 
+    -- what is acknowledged stays
+    pub still_acked : whole_acked after ≡ whole_acked s
+    still_acked = omega (arith, more, whole, right.within)
+
     pub pushed_on : SendsRight l after
     pushed_on = record {
       sent = ap (λ (n : ℕ). (n + p.size) % 2 ^ 64) right.sent ∙ kept_more (whole_sent s) p.size ∙ ap kept (sym whole);
@@ -91,5 +95,19 @@ end_pushed l c stock packets later acks n p e got most =
       n = e.n;
       room = e.room;
       work_room = λ q none. absurd (cc);
+      spelled = λ q none. absurd (cc);
       between = omega (arith, e.between, ap length got, length-append (ring.sent packets) (p ∷ []));
     }
+
+-- what is acknowledged and what is allowed in all stay
+pub end_still :
+    (l : LinkShape) (c : Counts) (stock : StockValue) (packets later : Tx Packet) (acks : Rx Ack) (n : ℕ) (p : Packet) → IsSendEnd l c stock (Some p.buf) packets acks n → ring.sent later ≡ ring.sent packets ++ p ∷ []
+    → length p.buf.bytes ≤ p.buf.room
+    → (whole_acked (view_of (record c { sent = (c.sent + length p.buf.bytes) % 2 ^ 64 }) stock None later acks) ≡ whole_acked (view_of c stock (Some p.buf) packets acks))
+    × (whole_limit (view_of (record c { sent = (c.sent + length p.buf.bytes) % 2 ^ 64 }) stock None later acks) ≡ whole_limit (view_of c stock (Some p.buf) packets acks))
+end_still l c stock packets later acks n p e got most =
+    let a = still_acked l (view_of c stock (Some p.buf) packets acks) (packet_view p) e.shape e.right refl (e.work_room p.buf refl) most in
+    let more : map packet_view (ring.sent later) ≡ map packet_view (ring.sent packets) ++ packet_view p ∷ [] = ap (map packet_view) got ∙ map_push packet_view (ring.sent packets) p in
+    let F : List PacketView → Type 0 = λ ps. whole_acked (record (view_of c stock (Some p.buf) packets acks) { pushed = ps; sent = (c.sent + length p.buf.bytes) % 2 ^ 64; work = 0 }) ≡ whole_acked (view_of c stock (Some p.buf) packets acks) in
+    let all : whole_acked (view_of (record c { sent = (c.sent + length p.buf.bytes) % 2 ^ 64 }) stock None later acks) ≡ whole_acked (view_of c stock (Some p.buf) packets acks) = subst F (sym more) a in
+    (all, ap (λ (k : ℕ). k + room_left (view_of c stock (Some p.buf) packets acks)) all)

@@ -36,6 +36,7 @@ module _ (l : LinkShape) (c : Counts) (stock : StockValue) (work : Option BufVal
         n = e.n;
         room = e.room;
         work_room = e.work_room;
+        spelled = e.spelled;
         between = omega (arith, counted, e.between, some);
       })
 
@@ -50,6 +51,7 @@ module _ (l : LinkShape) (c : Counts) (stock : StockValue) (work : Option BufVal
         n = e.n;
         room = e.room;
         work_room = e.work_room;
+        spelled = e.spelled;
         between = omega (arith, counted, e.between, some);
       }
 

@@ -1,5 +1,6 @@
 // What passes through the ring of packets.
 ghost use Rattle.std.specs.Prelude.{◌≤◌, length};
+ghost use Rattle.jet_link.specs.Spelled.{IsSpelled};
 
 use jet_pool::Buf;
 
@@ -9,13 +10,15 @@ pub struct Packet {
     pub(crate) buf: Buf,
     pub ghost some: { 1 ≤ length buf.bytes },
     pub ghost small: { length buf.bytes ≤ 65536 },
+    pub ghost spelled: { ∥ IsSpelled buf.bytes ∥₁ },
 }
 
 impl Packet {
     ghost use Rattle.std.specs.Prelude.{◌≡◌, ◌≤◌, length};
 
     pub(crate) fn new(buf: Buf) -> Packet
-        requires { (1 ≤ length buf.bytes) × (length buf.bytes ≤ 65536) }
+        requires size { (1 ≤ length buf.bytes) × (length buf.bytes ≤ 65536) }
+        requires spelled { ∥ IsSpelled buf.bytes ∥₁ }
         ensures { result.buf ≡ buf }
     {
         Packet { buf }

@@ -3,8 +3,10 @@
 ghost use Rattle.jet_link.specs.Ends.{IsSendEnd};
 
 use crate::{Ack, Counts, LinkShape, Packet};
+use jet_items::Item;
 use jet_pool::{Buf, Stock};
 use jet_ring::{Rx, Tx};
+use jet_spell::{spellings_are_short, write_item};
 
 /// The end of a link that sends packets and takes acknowledgements.
 #[derive(Drop)]
@@ -23,7 +25,8 @@ pub struct SendEnd {
 
 impl SendEnd {
     ghost use Rattle.std.specs.Prelude.{◌≡◌, ◌≤◌, ◌<◌, ◌+◌, ◌++◌, ◌^◌, ◌↔◌, IsTrue, IsFalse, [], length, IsSome, IsNone, ◌⊎◌};
-    ghost use Rattle.jet_link.specs.Sending.{SameSend, IsBounded, TookAck, TookAcks, NoneToTake, MayNotBegin, Began, Written, DoesNotFit, Pushed, PutBack, HasBytes};
+    ghost use Rattle.jet_link.specs.Sending.{SameSend, IsBounded, Packs, TookAck, TookAcks, NoneToTake, MayNotBegin, Began, Written, DoesNotFit, Pushed, PutBack, HasBytes};
+    ghost use Rattle.jet_items.specs.Fits.{ItemFits};
     ghost use Rattle.jet_link.specs.Views.{send_view};
 
     /// The bytes sent, acknowledged and allowed.
@@ -32,6 +35,13 @@ impl SendEnd {
         ensures bounded { IsBounded (send_view self.now) }
     {
         self.counts
+    }
+
+    /// How many packets may be pushed before the next meeting.
+    pub fn free(&self) -> usize
+        ensures { result ≡ (send_view self.now).packets.free }
+    {
+        self.packets.free()
     }
 
     /// Whether a buffer is in work.
@@ -89,7 +99,7 @@ impl SendEnd {
     /// Takes a buffer into work, where none is, the bytes sent are below the limit and one is in the stock.
     pub fn begin(&mut self) -> bool
         requires idle { IsNone (send_view self.old).work }
-        ensures same { SameSend (send_view self.old) (send_view self.new) }
+        ensures packs { Packs (send_view self.old) (send_view self.new) }
         ensures bounded { IsBounded (send_view self.new) }
         ensures begun { IsTrue result → Began (send_view self.old) (send_view self.new) }
         ensures none { IsFalse result → (send_view self.new ≡ send_view self.old) × MayNotBegin (send_view self.new) }
@@ -104,25 +114,27 @@ impl SendEnd {
         true
     }
 
-    /// Appends the bytes to the buffer in work, where they fit, all or none.
-    pub fn write(&mut self, bytes: &[u8]) -> bool
+    /// Writes the item behind what is in work, where it fits. An empty packet has room for any item.
+    pub fn write(&mut self, item: &Item) -> bool
         requires work { IsSome (send_view self.old).work }
-        ensures same { SameSend (send_view self.old) (send_view self.new) }
         ensures bounded { IsBounded (send_view self.new) }
-        ensures written { IsTrue result → Written (send_view self.old) (send_view self.new) bytes.now }
-        ensures full { IsFalse result → (send_view self.new ≡ send_view self.old) × DoesNotFit (send_view self.old).work bytes.now }
+        ensures packs { Packs (send_view self.old) (send_view self.new) }
+        ensures ranges { ItemFits item.now }
+        ensures written { IsTrue result → Written (send_view self.old) (send_view self.new) item.now }
+        ensures full { IsFalse result → (send_view self.new ≡ send_view self.old) × DoesNotFit (send_view self.old).work item.now }
+        ensures bytes { HasBytes (send_view self.new).work }
     {
+        spellings_are_short();
         match &mut self.work {
-            Some(buf) => buf.push(bytes),
+            Some(buf) => write_item(item, buf),
             None => false,
         }
     }
 
     /// Pushes what is in work as a packet, where a slot of the ring is known to be free.
     pub fn push(&mut self) -> bool
-        requires work { IsSome (send_view self.old).work }
-        requires bytes { HasBytes (send_view self.old).work }
-        ensures same { SameSend (send_view self.old) (send_view self.new) }
+        requires { HasBytes (send_view self.old).work }
+        ensures packs { Packs (send_view self.old) (send_view self.new) }
         ensures bounded { IsBounded (send_view self.new) }
         ensures pushed { IsTrue result → Pushed (send_view self.old) (send_view self.new) }
         ensures full { IsFalse result → (send_view self.new ≡ send_view self.old) × ((send_view self.new).packets.free ≡ 0) }
@@ -142,10 +154,10 @@ impl SendEnd {
     /// Puts the buffer in work back where it is empty, and says so. A turn ends with it: so one that did nothing leaves
     /// the end as it was.
     pub fn put_back(&mut self) -> bool
-        ensures same { SameSend (send_view self.old) (send_view self.new) }
+        ensures packs { Packs (send_view self.old) (send_view self.new) }
         ensures bounded { IsBounded (send_view self.new) }
         ensures back { IsTrue result → PutBack (send_view self.old) (send_view self.new) }
-        ensures kept { IsFalse result → (send_view self.new ≡ send_view self.old) × HasBytes (send_view self.new).work }
+        ensures kept { IsFalse result → (send_view self.new ≡ send_view self.old) × (IsNone (send_view self.new).work ⊎ HasBytes (send_view self.new).work) }
     {
         match self.work.take() {
             None => false,

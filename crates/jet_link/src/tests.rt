@@ -1,10 +1,11 @@
-// A link over which no items run: packets of bytes, the three acknowledgements of a worked case, and two threads.
+// A link over which no items run: packets of idle notes, the three acknowledgements of a worked case, and two threads.
 ghost use Rattle.jet_link.specs.Meeting.{IsLink, BothMet};
 ghost use Rattle.jet_link.specs.Receiving.{SameRecv};
 ghost use Rattle.jet_link.specs.Sending.{SameSend};
 ghost use Rattle.jet_link.specs.Views.{send_view, recv_view};
 
 use super::*;
+use jet_items::Item;
 use std::test::Fail;
 use std::thread;
 use std::thread::Threads;
@@ -19,17 +20,20 @@ const SHAPE: LinkShape = LinkShape {
     buffers: 5,
 };
 
-// Packs these bytes into a packet of its own and pushes it, where a packet may begin.
-fn send(sender: &mut SendEnd, bytes: &[u8]) -> bool
+// Packs so many idle notes, of one byte each, into a packet of its own and pushes it, where a packet may begin.
+fn send(sender: &mut SendEnd, notes: u32) -> bool
     ensures { SameSend (send_view sender.old) (send_view sender.new) }
 {
     sender.take_acks();
     if sender.is_working() || !sender.begin() {
         return false;
     }
-    let sent = !bytes.is_empty() && sender.write(bytes) && sender.push();
-    sender.put_back();
-    sent
+    for _ in 0..notes {
+        if sender.is_working() {
+            sender.write(&Item::Idle);
+        }
+    }
+    !sender.put_back() && sender.is_working() && sender.push()
 }
 
 fn receive(receiver: &mut RecvEnd)
@@ -67,10 +71,10 @@ fn unload(receiver: &mut RecvEnd)
     receiver.end_turn();
 }
 
-fn send_side(mut sender: SendEnd, bytes: &[u8]) -> (SendEnd, bool)
+fn send_side(mut sender: SendEnd, notes: u32) -> (SendEnd, bool)
     ensures { SameSend (send_view sender) (send_view result.0) }
 {
-    let sent = send(&mut sender, bytes);
+    let sent = send(&mut sender, notes);
     (sender, sent)
 }
 
@@ -89,14 +93,14 @@ struct Ends {
 }
 
 // Each end has a turn on a thread of its own, and then they meet.
-fn across<R: Threads + Sync>(rt: &R, sender: SendEnd, receiver: RecvEnd, bytes: &[u8]) -> Ends
+fn across<R: Threads + Sync>(rt: &R, sender: SendEnd, receiver: RecvEnd, notes: u32) -> Ends
     requires { IsLink (send_view sender) (recv_view receiver) }
     ensures link { IsLink (send_view result.sender) (recv_view result.receiver) }
     ensures met { BothMet (send_view result.sender) (recv_view result.receiver) }
 {
     let ((mut sender, sent), mut receiver) = thread::join(
         rt,
-        move || send_side(sender, bytes),
+        move || send_side(sender, notes),
         move || recv_side(receiver),
     );
     let _ = meet(&mut sender, &mut receiver);
@@ -107,13 +111,13 @@ fn across<R: Threads + Sync>(rt: &R, sender: SendEnd, receiver: RecvEnd, bytes: 
     }
 }
 
-// A packet of these bytes and two turns of the receiver, with meetings around them: the bytes acknowledged, the limit and
+// A packet of so many notes and two turns of the receiver, with meetings around them: the bytes acknowledged, the limit and
 // the grant after them.
-fn round(sender: &mut SendEnd, receiver: &mut RecvEnd, bytes: &[u8]) -> (u64, u64, u32)
+fn round(sender: &mut SendEnd, receiver: &mut RecvEnd, notes: u32) -> (u64, u64, u32)
     requires { IsLink (send_view sender.old) (recv_view receiver.old) }
     ensures { IsLink (send_view sender.new) (recv_view receiver.new) }
 {
-    send(sender, bytes);
+    send(sender, notes);
     let _ = meet(sender, receiver);
     unload(receiver);
     unload(receiver);
@@ -126,19 +130,10 @@ fn round(sender: &mut SendEnd, receiver: &mut RecvEnd, bytes: &[u8]) -> (u64, u6
 #[test]
 fn the_grant_follows_what_was_processed(rt: HostRuntime) -> Result<(), Fail> {
     let (mut sender, mut receiver) = link(rt.alloc(), SHAPE)?;
-    assert_eq!(rt;
-        round(&mut sender, &mut receiver, &[7; 196]),
-        (196, 452, 588)
-    );
-    assert_eq!(rt;
-        round(&mut sender, &mut receiver, &[7; 98]),
-        (294, 882, 294)
-    );
-    assert_eq!(rt;
-        round(&mut sender, &mut receiver, &[7; 98]),
-        (392, 882, 294)
-    );
-    assert_eq!(rt; round(&mut sender, &mut receiver, &[]), (392, 882, 256));
+    assert_eq!(rt; round(&mut sender, &mut receiver, 196), (196, 452, 588));
+    assert_eq!(rt; round(&mut sender, &mut receiver, 98), (294, 882, 294));
+    assert_eq!(rt; round(&mut sender, &mut receiver, 98), (392, 882, 294));
+    assert_eq!(rt; round(&mut sender, &mut receiver, 0), (392, 882, 256));
     Ok(())
 }
 
@@ -151,11 +146,11 @@ fn a_packet_begins_below_the_limit_alone(rt: HostRuntime) -> Result<(), Fail> {
         ..SHAPE
     };
     let (mut sender, mut receiver) = link(rt.alloc(), shape)?;
-    assert_eq!(rt; send(&mut sender, &[7; 199]), true);
-    assert_eq!(rt; send(&mut sender, &[7; 256]), true);
-    assert_eq!(rt; send(&mut sender, &[7; 1]), false);
-    assert_eq!(rt; round(&mut sender, &mut receiver, &[]), (455, 655, 200));
-    assert_eq!(rt; send(&mut sender, &[7; 1]), true);
+    assert_eq!(rt; send(&mut sender, 199), true);
+    assert_eq!(rt; send(&mut sender, 256), true);
+    assert_eq!(rt; send(&mut sender, 1), false);
+    assert_eq!(rt; round(&mut sender, &mut receiver, 0), (455, 655, 200));
+    assert_eq!(rt; send(&mut sender, 1), true);
     Ok(())
 }
 
@@ -163,10 +158,10 @@ fn a_packet_begins_below_the_limit_alone(rt: HostRuntime) -> Result<(), Fail> {
 #[test]
 fn the_ends_cross_to_two_threads_and_back(rt: HostRuntime) -> Result<(), Fail> {
     let (sender, receiver) = link(rt.alloc(), SHAPE)?;
-    let first = across(&rt, sender, receiver, &[7; 199]);
+    let first = across(&rt, sender, receiver, 199);
     assert_eq!(rt; first.sent, true);
-    let second = across(&rt, first.sender, first.receiver, &[]);
-    let third = across(&rt, second.sender, second.receiver, &[]);
+    let second = across(&rt, first.sender, first.receiver, 0);
+    let third = across(&rt, second.sender, second.receiver, 0);
     let counts = third.sender.counts();
     assert_eq!(rt; (counts.sent, counts.acked), (199, 199));
     Ok(())

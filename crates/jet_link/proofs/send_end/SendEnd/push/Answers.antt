@@ -1,11 +1,12 @@
-use Rattle.std.proofs.Common.{rules, arith, subst, sym, ap, ◌∙◌, ◌≡◌, ◌≤◌, ◌<◌, ◌+◌, ◌%◌, ◌^◌, ◌∷◌, [], length, Option, Some, ℕ, List}
+use Rattle.std.proofs.Common.{rules, arith, subst, sym, ap, refl, ◌∙◌, ◌≡◌, ◌≤◌, ◌<◌, ◌+◌, ◌%◌, ◌^◌, ◌∷◌, [], length, Option, Some, None, ℕ, List}
 use Rattle.std.proofs.lemmas.List.{length-append}
 use Rattle.jet_ring.specs.Ring as ring
 use Rattle.jet_pool.specs.Pool.{BufValue}
-use Rattle.jet_link.specs.Ends.{IsSendEnd}
+use Rattle.jet_link.specs.Ends.{IsSendEnd, count_of, view_of}
+use Rattle.jet_link.specs.Link.{SendState, whole_acked, whole_limit}
 use Rattle.jet_link.specs.Sending.{HasBytes}
 use Rattle.jet_link.specs.Views.{send_view}
-use Rattle.jet_link.proofs.Pushing.{end_pushed}
+use Rattle.jet_link.proofs.Pushing.{end_pushed, end_still}
 use Rattle.jet_link.proofs.Written.{pushed_is}
 use Rattle.jet_link.proofs.RecvEnds.{sent_ok}
 use Rattle.jet_link.proofs.send_end.SendEnd.push.Goals as goal
@@ -13,9 +14,9 @@ use Rattle.jet_link.proofs.send_end.SendEnd.push.Goals as goal
 pub new-requires : goal.new-requires
 new-requires c =
     let work : c.args.self.now.work ≡ Some c.in-Some.buf = sym c.take.ensures.value ∙ c.in-Some.is in
-    let some : 0 < length c.in-Some.buf.bytes = subst HasBytes work c.requires.bytes in
+    let some : 0 < length c.in-Some.buf.bytes = subst HasBytes work c.requires in
     let room = c.args.self.now.right.work_room c.in-Some.buf work in
-    (omega (arith, some), omega (arith, room, c.bytes.ensures.most, c.args.self.now.right.shape.packet.1))
+    record { size = (omega (arith, some), omega (arith, room, c.bytes.ensures.most, c.args.self.now.right.shape.packet.1)); spelled = c.args.self.now.right.spelled c.in-Some.buf work }
 
 pub invariant_of-self-2 : goal.invariant_of-self-2
 invariant_of-self-2 c =
@@ -48,4 +49,28 @@ returns-clause-pushed c = λ f.
       was = work;
       slot = omega (arith, c.offer.ensures.reach, ap length got, length-append (ring.sent me.packets) (p ∷ []));
       is = pushed_is (send_view me) c.take.new.self (ring.tx_view c.offer.new.self) p c.bytes.result.now c.take.ensures.after c.offer.ensures.ring got size;
+    }
+
+pub returns-clause-packs : goal.returns-clause-packs
+returns-clause-packs c =
+    let me = c.args.self.now in
+    let p = c.new.result in
+    let work : me.work ≡ Some p.buf = sym c.take.ensures.value ∙ c.in-Some.is ∙ ap (λ (b : BufValue). Some b) (sym c.new.ensures) in
+    let e : IsSendEnd me.shape me.counts me.stock (Some p.buf) me.packets me.acks me.outstanding = subst (λ (w : Option BufValue). IsSendEnd me.shape me.counts me.stock w me.packets me.acks me.outstanding) work me.right in
+    let got = sent_ok c.offer.result c.offer.ensures.cause c.offer.ensures.sent (search rules) in
+    let most : length p.buf.bytes ≤ p.buf.room = subst (λ (b : BufValue). length b.bytes ≤ b.room) (sym c.new.ensures) c.bytes.ensures.most in
+    let size : p.buf.bytes ≡ c.bytes.result.now = ap (λ (b : BufValue). b.bytes) c.new.ensures ∙ sym c.bytes.ensures.bytes in
+    let still = end_still me.shape me.counts me.stock me.packets c.offer.new.self me.acks me.outstanding p e got most in
+    let now : List ℕ → SendState = λ bytes. view_of (record me.counts { sent = (me.counts.sent + length bytes) % 2 ^ 64 }) me.stock None c.offer.new.self me.acks in
+    let was : SendState = view_of me.counts me.stock (Some p.buf) me.packets me.acks in
+    record {
+      same = record { shape = refl; packets = c.offer.ensures.ring; acks = refl };
+      acks = refl;
+      sent = (p ∷ [], sym got);
+      reach = c.offer.ensures.reach;
+      buffers = omega (arith, ap count_of c.take.ensures.after, ap count_of work, ap length got, length-append (ring.sent me.packets) (p ∷ []));
+      acked = refl;
+      limit = refl;
+      all_acked = subst (λ (bytes : List ℕ). whole_acked (now bytes) ≡ whole_acked was) size still.0;
+      all_allowed = subst (λ (bytes : List ℕ). whole_limit (now bytes) ≡ whole_limit was) size still.1;
     }

@@ -29,4 +29,4 @@ returns-then-room-self-clause-took c = λ _.
     let r = end_rises c.args.self.now.shape c.args.self.now.counts c.args.self.now.stock c.args.self.now.work c.args.self.now.packets c.args.self.now.acks c.take.new.self c.args.self.now.outstanding c.in-Some.ack
     c.args.self.now.right (omega arith) (search rules) c.accepts-allowed.ensures.fits.0 c.accepts-allowed.ensures.fits.1 c.put.new.self (search rules) in
     let got : ring.received c.take.new.self ≡ ring.received c.args.self.now.acks ++ c.in-Some.ack ∷ [] = search rules in
-    record { took = record { same = record { shape = refl; packets = refl; acks = c.take.ensures.ring }; work = refl; packets = refl; more = (c.in-Some.ack ∷ [], sym got); sent = refl; acked = r.0; limit = r.1 }; one = (c.in-Some.ack, got) }
+    record { took = record { same = record { shape = refl; packets = refl; acks = c.take.ensures.ring }; work = refl; packets = refl; more = (c.in-Some.ack ∷ [], sym got); still_known = c.take.ensures.seen; sent = refl; acked = r.0; limit = r.1 }; one = (c.in-Some.ack, got) }

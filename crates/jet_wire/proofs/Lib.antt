@@ -1,0 +1,13 @@
+pub mod Coming
+pub mod Counting
+pub mod Dealing
+pub mod Edges
+pub mod Fresh
+pub mod Going
+pub mod Heard
+pub mod Lent
+pub mod Meeting
+pub mod Packets
+pub mod ReceiverTurns
+pub mod Sending
+pub mod Turning

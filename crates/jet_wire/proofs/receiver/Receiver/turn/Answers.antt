@@ -1,0 +1,51 @@
+use Rattle.std.proofs.Common.{nat_lt}
+use Rattle.jet_wire.specs.Receiver.{receiver_view}
+use Rattle.jet_wire.proofs.ReceiverTurns.{turn_gives, turn_turned, turn_moved, turn_stays, turn_still, turn_rests}
+use Rattle.jet_wire.proofs.Turning.{none_of}
+use Rattle.jet_wire.proofs.receiver.Receiver.turn.Goals as goal
+
+pub unload-requires : goal.unload-requires
+unload-requires c = record { keeps = (c.requires.keeps.given, c.receive-received.ensures.receives.stays.stays c.requires.keeps.given c.requires.keeps.keeps) }
+
+pub returns-then-moved-clause-keeps : goal.returns-then-moved-clause-keeps
+returns-then-moved-clause-keeps c = turn_gives (receiver_view c.args.self.now) (receiver_view c.receive-received.new.self) (receiver_view c.unload.new.self) (receiver_view c.settle-acked.new.self)
+    c.receive-received.ensures.receives c.unload.ensures.deals c.settle-acked.ensures.receives
+
+pub returns-else-moved-clause-keeps : goal.returns-else-moved-clause-keeps
+returns-else-moved-clause-keeps c = turn_gives (receiver_view c.args.self.now) (receiver_view c.receive-received.new.self) (receiver_view c.unload.new.self) (receiver_view c.settle-acked.new.self)
+    c.receive-received.ensures.receives c.unload.ensures.deals c.settle-acked.ensures.receives
+
+pub returns-then-moved-clause-turned : goal.returns-then-moved-clause-turned
+returns-then-moved-clause-turned c = turn_turned (receiver_view c.args.self.now) (receiver_view c.receive-received.new.self) (receiver_view c.unload.new.self) (receiver_view c.settle-acked.new.self)
+    c.receive-received.ensures.receives c.unload.ensures.deals c.settle-acked.ensures.receives
+
+pub returns-else-moved-clause-turned : goal.returns-else-moved-clause-turned
+returns-else-moved-clause-turned c = turn_turned (receiver_view c.args.self.now) (receiver_view c.receive-received.new.self) (receiver_view c.unload.new.self) (receiver_view c.settle-acked.new.self)
+    c.receive-received.ensures.receives c.unload.ensures.deals c.settle-acked.ensures.receives
+
+pub returns-then-moved-clause-moved : goal.returns-then-moved-clause-moved
+returns-then-moved-clause-moved c = λ _. turn_moved (receiver_view c.args.self.now) (receiver_view c.receive-received.new.self) (receiver_view c.unload.new.self) (receiver_view c.settle-acked.new.self)
+    c.receive-received.ensures.receives c.unload.ensures.deals c.settle-acked.ensures.receives
+    c.receive-received.result c.settle-acked.result c.free-left.result c.free-free.result c.free-left.ensures c.free-free.ensures c.receive-received.ensures.received c.settle-acked.ensures.acked c.if-moved.true
+
+pub returns-else-moved-clause-same : goal.returns-else-moved-clause-same
+returns-else-moved-clause-same c = λ _.
+    let no = none_of c.receive-received.result c.settle-acked.result (nat_lt c.free-left.result c.free-free.result) c.if-moved.false in
+    turn_stays (receiver_view c.args.self.now) (receiver_view c.receive-received.new.self) (receiver_view c.unload.new.self) (receiver_view c.settle-acked.new.self)
+    c.receive-received.ensures.receives c.unload.ensures.deals c.settle-acked.ensures.receives
+    (c.receive-received.ensures.same no.0) c.free-left.result c.free-free.result c.free-left.ensures c.free-free.ensures no.2 (c.settle-acked.ensures.still no.1)
+
+pub returns-else-moved-clause-still : goal.returns-else-moved-clause-still
+returns-else-moved-clause-still c = λ _.
+    let no = none_of c.receive-received.result c.settle-acked.result (nat_lt c.free-left.result c.free-free.result) c.if-moved.false in
+    turn_still (receiver_view c.args.self.now) (receiver_view c.receive-received.new.self) (receiver_view c.unload.new.self) (receiver_view c.settle-acked.new.self)
+    c.receive-received.ensures.receives c.unload.ensures.deals c.settle-acked.ensures.receives
+    (c.receive-received.ensures.same no.0) c.free-left.result c.free-free.result c.free-left.ensures c.free-free.ensures no.2 (c.settle-acked.ensures.still no.1)
+
+pub returns-else-moved-clause-idle : goal.returns-else-moved-clause-idle
+returns-else-moved-clause-idle c = λ _.
+    let no = none_of c.receive-received.result c.settle-acked.result (nat_lt c.free-left.result c.free-free.result) c.if-moved.false in
+    turn_rests (receiver_view c.args.self.now) (receiver_view c.receive-received.new.self) (receiver_view c.unload.new.self) (receiver_view c.settle-acked.new.self)
+    c.receive-received.ensures.receives c.unload.ensures.deals c.settle-acked.ensures.receives
+    (c.receive-received.ensures.same no.0) c.free-left.result c.free-free.result c.free-left.ensures c.free-free.ensures no.2 (c.settle-acked.ensures.still no.1)
+    (c.receive-received.ensures.none no.0) c.unload.ensures.stuck (c.settle-acked.ensures.full no.1)

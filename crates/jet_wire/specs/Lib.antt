@@ -1,0 +1,11 @@
+pub mod Edge
+pub mod Lending
+pub mod Meeting
+pub mod Noting
+pub mod Passing
+pub mod Receiver
+pub mod ReceiverSteps
+pub mod ReceiverTurn
+pub mod Sender
+pub mod SenderSteps
+pub mod SenderTurn

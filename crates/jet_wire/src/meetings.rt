@@ -1,0 +1,41 @@
+// Meetings: of the two ends of a link, and of the rings on either side of it.
+ghost use Rattle.std.specs.Prelude.{◌≡◌, IsOk};
+ghost use Rattle.jet_link.specs.Meeting.{IsLink, BothMet, SendMet, RecvMet};
+ghost use Rattle.jet_wire.specs.Meeting.{GivesWhatWasSent, GivesAll};
+ghost use Rattle.jet_wire.specs.Receiver.{receiver_view, ReceiverStays};
+ghost use Rattle.jet_wire.specs.Sender.{sender_view, Stays};
+
+use crate::{Receiver, Sender};
+use jet_items::NoMemory;
+use jet_link::meet;
+use jet_spell::front_of;
+
+/// A meeting of a sender and a receiver that hold the two ends of one link: of both rings of the link. It takes no memory
+/// and always succeeds, and neither end gives or takes anything by it.
+pub fn refresh_link(sender: &mut Sender, receiver: &mut Receiver) -> Result<(), NoMemory>
+    requires { IsLink (sender_view sender.old).end (receiver_view receiver.old).end }
+    ensures answer { IsOk result }
+    ensures link { IsLink (sender_view sender.new).end (receiver_view receiver.new).end }
+    ensures met { BothMet (sender_view sender.new).end (receiver_view receiver.new).end }
+
+    // nothing but what the ends know of the two rings changes
+    ensures sender { SendMet (sender_view sender.old).end (sender_view sender.new).end }
+    ensures only_end { sender_view sender.new ≡ record (sender_view sender.old) { end = (sender_view sender.new).end } }
+    ensures receiver { RecvMet (receiver_view receiver.old).end (receiver_view receiver.new).end }
+    ensures only_its_end { receiver_view receiver.new ≡ record (receiver_view receiver.old) { end = (receiver_view receiver.new).end } }
+
+    // and both keep what they keep
+    ensures sent { Stays (sender_view sender.old) (sender_view sender.new) }
+    ensures given { ReceiverStays (receiver_view receiver.old) (receiver_view receiver.new) }
+{
+    meet(&mut sender.end, &mut receiver.end)
+}
+
+/// A law for proofs above, of a sender and a receiver that have met: what the receiver gave its router is a front of what
+/// the sender sent, and all of that where no packet is known and nothing is left of the one in hand. The call does nothing.
+pub fn receivers_give_what_was_sent(sender: &Sender, receiver: &Receiver)
+    ensures front { GivesWhatWasSent (sender_view sender.now) (receiver_view receiver.now) }
+    ensures all { GivesAll (sender_view sender.now) (receiver_view receiver.now) }
+{
+    front_of();
+}
