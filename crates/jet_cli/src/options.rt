@@ -9,10 +9,9 @@ use jet_plan::Settings;
 pub(crate) fn with_options(options: &Options, settings: Settings) -> Settings
     ensures { result ≡ with_options options.now settings }
 {
-    Settings {
-        workers: options.workers.unwrap_or(settings.workers),
-        members: options.members.unwrap_or(settings.members),
-        ring: options.ring.unwrap_or(settings.ring),
-        ..settings
-    }
+    let mut settings = settings;
+    settings.workers = options.workers.unwrap_or(settings.workers);
+    settings.members = options.members.unwrap_or(settings.members);
+    settings.ring = options.ring.unwrap_or(settings.ring);
+    settings
 }
