@@ -8,6 +8,7 @@ pub mod Heard
 pub mod Lent
 pub mod Meeting
 pub mod Packets
+pub mod Passing
 pub mod ReceiverTurns
 pub mod Sending
 pub mod Turning

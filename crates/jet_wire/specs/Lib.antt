@@ -1,3 +1,4 @@
+pub mod Data
 pub mod Edge
 pub mod Lending
 pub mod Meeting

@@ -1,6 +1,7 @@
 // Meetings: of the two ends of a link, and of the rings on either side of it.
 ghost use Rattle.std.specs.Prelude.{◌≡◌, IsOk};
 ghost use Rattle.jet_link.specs.Meeting.{IsLink, BothMet, SendMet, RecvMet};
+ghost use Rattle.jet_wire.specs.Data.{PassesData, SendsAll};
 ghost use Rattle.jet_wire.specs.Meeting.{GivesWhatWasSent, GivesAll};
 ghost use Rattle.jet_wire.specs.Receiver.{receiver_view, ReceiverStays};
 ghost use Rattle.jet_wire.specs.Sender.{sender_view, Stays};
@@ -8,7 +9,7 @@ ghost use Rattle.jet_wire.specs.Sender.{sender_view, Stays};
 use crate::{Receiver, Sender};
 use jet_items::NoMemory;
 use jet_link::meet;
-use jet_spell::front_of;
+use jet_spell::{front_of, spellings_are_short};
 
 /// A meeting of a sender and a receiver that hold the two ends of one link: of both rings of the link. It takes no memory
 /// and always succeeds, and neither end gives or takes anything by it.
@@ -38,4 +39,13 @@ pub fn receivers_give_what_was_sent(sender: &Sender, receiver: &Receiver)
     ensures all { GivesAll (sender_view sender.now) (receiver_view receiver.now) }
 {
     front_of();
+}
+
+/// A law for proofs above: a sender passes on all data that came to it, in its order, and where it holds nothing, it has
+/// sent all that it passes on. The call does nothing.
+pub fn senders_send_what_came(sender: &Sender)
+    ensures data { PassesData (sender_view sender.now) }
+    ensures all { SendsAll (sender_view sender.now) }
+{
+    spellings_are_short();
 }
