@@ -42,7 +42,7 @@ pub fn run_jet<R: Threads + Sync, O: Outside, G: Gate + Sync, L: Ledger>(
 
     // However it ends, its calls come in this order: the job file of `plan` and `check` is opened and read, and no more
     // bytes are taken of it than one too many; then the data files are opened in the order of their numbers, and no
-    // other; then `check` reads each and writes its line, one after another.
+    // other; then each has its turn in `check`: reads of it, and then writes.
     ensures calls { IfSome (command_of (map string_bytes words.now))
         (λ c. WhereTold (Calling (IsInOrder c)) (O.told out.old) (O.told out.new)) }
 

@@ -28,7 +28,7 @@ IsNoOpening (Missed (Opening name)) = ⊥
 IsNoOpening call = ⊤
 
 -- Files of these names are opened in this order, and no other call is made before all are open. From then on no file is
--- opened. The calls may end early, and then with an opening that failed.
+-- opened. The calls may end early, also with an opening that failed.
 abbrev pub OpensInOrder : List (List ℕ) → List CallMade → Type 0
 OpensInOrder [] calls = All IsNoOpening calls
 OpensInOrder (name ∷ names) [] = ⊤
@@ -55,7 +55,7 @@ abbrev pub IsEnd : List CallMade → Type 0
 IsEnd last = (last ≡ []) ⊎ ((tried : Tried) × (last ≡ Missed tried ∷ []))
 
 -- Files of these names are opened in this order. When all are open they have their turns in the same order. The calls
--- may end early, and then with one that failed.
+-- may end early, also with one that failed.
 pub record ReadsInOrder (names : List (List ℕ)) (calls : List CallMade) : Type 0 where
   pub opens : OpensInOrder names calls
   pub opened : List (List ℕ × ℕ)
