@@ -1,3 +1,4 @@
+pub mod DoneLast
 pub mod Edge
 pub mod Lending
 pub mod Meeting
