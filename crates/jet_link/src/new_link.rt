@@ -18,6 +18,7 @@ pub fn link(alloc: Global, shape: LinkShape) -> Result<(SendEnd, RecvEnd), NoMem
     ensures receiver { IfOk result (λ r. IsNewRecv shape (recv_view r.1)) }
     ensures link { IfOk result (λ r. IsLink (send_view r.0) (recv_view r.1)) }
     ensures met { IfOk result (λ r. BothMet (send_view r.0) (recv_view r.1)) }
+    ensures slots { IfOk result (λ r. ((send_view r.0).packets.ring.cap ≡ shape.buffers) × ((send_view r.0).acks.ring.cap ≡ shape.buffers)) }
 {
     let stock = Stock::new(alloc, shape.buffers, shape.packet)?;
     let (packets, taken) = ring::<Packet>(alloc, shape.buffers as usize)?;

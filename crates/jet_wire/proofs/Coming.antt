@@ -1,22 +1,50 @@
 -- A sender to which one item more came.
-use Rattle.std.proofs.Common.{◌≡◌, ℕ, zero, suc, ◌<◌, ◌||◌, Bool, true, false, List, [], ◌∷◌, ◌++◌, length, get_or, set, map, refl, sym, ◌∙◌, ap, subst, inl, inr, arith, Option, None, append-nil}
+use Rattle.std.proofs.Common.{◌≡◌, ℕ, zero, suc, ◌<◌, ◌==◌, ◌||◌, Bool, true, false, cond, List, [], ◌∷◌, ◌++◌, length, get_or, set, map, refl, sym, ◌∙◌, ap, subst, inl, inr, arith, Option, None, append-nil}
 use Rattle.std.proofs.lemmas.List.{get_or-set_same, get_or-set_other, length-set, length-map}
 use Rattle.std.proofs.lemmas.Bool.Decides.{eqb_tells}
 use Rattle.jet_items.specs.declared.item.Item.{Item}
 use Rattle.jet_items.specs.Done.{is_done}
+use Rattle.jet_items.specs.Order.{Each}
+use Rattle.jet_items.proofs.Orders.{Each-append, Each-more, EachPair-append}
 use Rattle.jet_coalescer.specs.declared.coalescer.Coalescer.{Coalescer}
 use Rattle.jet_coalescer.specs.declared.queue.Queue.{Queue}
 use Rattle.jet_coalescer.specs.Low.{HasHeard, known}
 use Rattle.jet_coalescer.specs.Queues.{is_done_at, unknown}
 use Rattle.jet_conveyor.specs.Conveyor as conveyor
 use Rattle.jet_wire.specs.Noting.{items_in, Passes}
-use Rattle.jet_wire.specs.Passing.{Taken, of_queue, has_ended, histories, heard, passed, passes}
+use Rattle.jet_wire.specs.Passing.{Taken, MayFollow, InOrder, of_queue, has_ended, histories, heard, passed, passes}
 use Rattle.jet_wire.specs.Sender.{SenderView, queue_count, HasTaken, HasSent, SenderKeeps}
 use Rattle.jet_wire.proofs.Heard.{own_queue, other_queue, passed-push, length_histories, ended_push}
 
 or_at : (b c : Bool) → b ≡ false → (b || c) ≡ c
 or_at true c h = absurd (cc)
 or_at false c h = refl
+
+-- no Done came of a queue that is not done
+none_clash : (a b : Bool) → a ≡ true → (a || b) ≡ false → ⊥
+none_clash true b d i = cc
+none_clash false b d i = cc
+
+none_later : (a b : Bool) → (a || b) ≡ false → b ≡ false
+none_later true b i = absurd (cc)
+none_later false b i = i
+
+none_split : (f : Bool) (x : Item) (xs : List Item) → has_ended (cond f (x ∷ []) [] ++ xs) ≡ false → (is_done x ≡ true → f ≡ false) × (has_ended xs ≡ false)
+none_split true x xs e = (λ d. absurd (none_clash (is_done x) (has_ended xs) d e), none_later (is_done x) (has_ended xs) e)
+none_split false x xs e = (λ d. refl, e)
+
+none_ended : (q : ℕ) (came : List Taken) → has_ended (of_queue q came) ≡ false → Each (λ b. is_done b.item ≡ true → (b.queue == q) ≡ false) came
+none_ended q [] h = tt
+none_ended q (b ∷ came) h = let r = none_split (b.queue == q) b.item (of_queue q came) h in (r.0, none_ended q came r.1)
+
+-- so one item more may come of it
+order_more : (n : ℕ) (came : List Taken) (a : Taken) → a.queue < n → has_ended (of_queue a.queue came) ≡ false → InOrder n came → InOrder n (came ++ a ∷ [])
+order_more n came a lt still o = record {
+  inside = Each-append (λ (b : Taken). b.queue < n) came (a ∷ []) o.inside (lt, tt);
+  follows =
+      EachPair-append MayFollow came (a ∷ []) o.follows (tt, tt)
+      (Each-more (λ (b : Taken). MayFollow b a) (λ (b : Taken). Each (MayFollow b) (a ∷ [])) (λ b f. (f, tt)) came (none_ended a.queue came still));
+}
 
 -- the queue of this number is done
 abbrev done_of : List Queue → ℕ → Bool
@@ -63,6 +91,9 @@ module _ (v : SenderView) (came : List Taken) (h : HasTaken v.queues v.lows came
           | inr e ↦ get_or-set_other v.queues.received q k y [] e.1 ∙ (h.received_is k kt ∙ sym (other_queue came a k e.1))
         ])
 
+    order_here : InOrder n more
+    order_here = order_more n came a lt (sym (h.done_is q lt) ∙ took.was_open) h.in_order
+
     done_here : (k : ℕ) → k < n → conveyor.is_done_at after k ≡ has_ended (of_queue k more)
     done_here k kt =
         let long : q < length v.queues.done = omega (arith, lt, h.done_each) in
@@ -85,6 +116,7 @@ module _ (v : SenderView) (came : List Taken) (h : HasTaken v.queues v.lows came
       done_each = ap (λ xs. length xs) took.done ∙ (length-set v.queues.done q _ ∙ (h.done_each ∙ sym same_count));
       received_is = λ k kt. received_here k (subst (λ (m : ℕ). k < m) same_count kt);
       done_is = λ k kt. done_here k (subst (λ (m : ℕ). k < m) same_count kt);
+      in_order = subst (λ (m : ℕ). InOrder m more) (sym same_count) order_here;
       heard_is = subst (λ (m : ℕ). HasHeard new (heard m more)) (heard_count ∙ sym same_count) (note.hears came heard_before);
     }
 

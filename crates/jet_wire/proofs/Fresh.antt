@@ -19,6 +19,7 @@ fresh_keeps v u e h hand = record {
     done_each = u.done_each;
     received_is = λ q lt. u.received q;
     done_is = λ q lt. u.done q lt;
+    in_order = record { inside = tt; follows = tt };
     heard_is = subst (HasHeard v.lows) (sym (none_heard (queue_count v))) h;
   };
   sends = record {

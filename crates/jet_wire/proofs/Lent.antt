@@ -12,7 +12,7 @@ use Rattle.jet_router.specs.Dest.{DestView, settled_by, HandIs}
 use Rattle.jet_router.specs.Router as router
 use Rattle.jet_router.specs.Router.{IsInHand, sents, hads}
 use Rattle.jet_router.specs.declared.aim.Route.{Route}
-use Rattle.jet_wire.specs.Passing.{heard, passed}
+use Rattle.jet_wire.specs.Passing.{InOrder, heard, passed}
 use Rattle.jet_wire.specs.Receiver.{ReceiverView, SomeNotHad, ReceiverStays}
 use Rattle.jet_wire.specs.Sender.{SenderView, Stays}
 
@@ -27,6 +27,7 @@ queues_met v w q r =
           done_each = ap (λ xs. length xs) r.done ∙ (k.takes_in.done_each ∙ sym n);
           received_is = λ q lt. ap (λ xs. get_or xs q []) r.received ∙ k.takes_in.received_is q (subst (λ (m : ℕ). q < m) n lt);
           done_is = λ q lt. ap (λ xs. get_or xs q true) r.done ∙ k.takes_in.done_is q (subst (λ (m : ℕ). q < m) n lt);
+          in_order = subst (λ (m : ℕ). InOrder m came) (sym n) k.takes_in.in_order;
           heard_is = subst (λ (m : ℕ). HasHeard v.lows (heard m came)) (sym n) k.takes_in.heard_is;
         };
         sends = record {

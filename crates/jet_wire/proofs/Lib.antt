@@ -1,6 +1,7 @@
 pub mod Coming
 pub mod Counting
 pub mod Dealing
+pub mod DoneLast
 pub mod Edges
 pub mod Fresh
 pub mod Going

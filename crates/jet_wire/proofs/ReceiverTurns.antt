@@ -1,5 +1,5 @@
 -- The turn of a receiver as a whole: a packet was taken, items were given, and the packet was counted and acknowledged.
-use Rattle.std.proofs.Common.{◌≡◌, ℕ, ◌+◌, ◌<◌, ◌≤◌, Bool, true, false, ◌||◌, nat_lt, List, [], ◌++◌, drop, length, refl, sym, ◌∙◌, ap, subst, arith, Option, inl, inr, IsSome, ltb-true, ltb-false, length-append}
+use Rattle.std.proofs.Common.{◌≡◌, ℕ, ◌+◌, ◌<◌, ◌≤◌, Bool, true, false, ◌||◌, nat_lt, List, [], ◌++◌, drop, length, refl, sym, ◌∙◌, ap, subst, arith, Option, inl, inr, None, Some, IsTrue, IsFalse, IsSome, ltb-true, ltb-false, length-append}
 use Rattle.std.specs.Prelude.{◌⊎◌}
 use mathlib.Core.List.{IsPrefix}
 use Rattle.jet_link.specs.declared.packet.Packet.{Packet}
@@ -12,11 +12,15 @@ use Rattle.jet_router.specs.Router as routers
 use Rattle.jet_router.proofs.Counting.{sent_and_free}
 use Rattle.jet_wire.specs.Receiver.{ReceiverView, bytes_left, ReceiverStays, Gives}
 use Rattle.jet_wire.specs.ReceiverSteps.{Deals, Receives, IsUnmoved, IsOwed}
-use Rattle.jet_wire.specs.ReceiverTurn.{RecvGoes, RouterGoes, ReceiverTurned, moved_count, ReceiverIsStill, ReceiverIsBlocked, ReceiverIsFull, ReceiverIsStarved, ReceiverRests}
+use Rattle.jet_wire.specs.ReceiverTurn.{RecvGoes, RouterGoes, ReceiverTurned, moved_count, ReceiverIsStill, ReceiverIsBlocked, ReceiverIsFull, ReceiverIsStarved, IsUnloaded, ReceiverRests}
 use Rattle.jet_wire.proofs.Packets.{recv_trans}
 
 front_size : {X : Type 0} (xs ys : List X) → IsPrefix xs ys → length xs ≤ length ys
 front_size xs ys (more, e) = omega (arith, ap length e, length-append xs more)
+
+none_or_some : (held : Option Packet) → held ≡ None ⊎ IsSome held
+none_or_some None = inl refl
+none_or_some (Some p) = inr refl
 
 module _ (o a d f : ReceiverView) (first : Receives o a) (deals : Deals a d) (last : Receives d f) where
   pub turn_gives : Gives o f
@@ -73,22 +77,8 @@ module _ (o a d f : ReceiverView) (first : Receives o a) (deals : Deals a d) (la
   turn_moved false false left free le fe came gave e =
       omega (arith, ltb-true left free e, le, fe, sums, received_oa, received_ad, received_df, acked_oa, acked_ad, acked_df, sent_oa, sent_df)
 
-  -- a turn in which nothing moved
-  module _ (same : a ≡ o) (left free : ℕ) (le : left ≡ routers.free_count d.router) (fe : free ≡ routers.free_count a.router) (none : nat_lt left free ≡ false) (rest : IsUnmoved d f) where
-    same_sent : routers.sent_count d.router ≡ routers.sent_count a.router
-    same_sent = omega (arith, ltb-false left free none, le, fe, sums, deals.more)
-
-    pub turn_stays : ReceiverStays o f
-    turn_stays = record { stays = λ items k. last.stays.stays items ((deals.stays same_sent).stays items (first.stays.stays items k)) }
-
-    pub turn_still : ReceiverIsStill o f
-    turn_still = record {
-      sent = sent_df ∙ (same_sent ∙ sent_oa);
-      packets = rest.packets ∙ ap (λ (w : RecvView). w.packets) deals.end ∙ ap (λ (v : ReceiverView). v.end.packets) same;
-      acks = rest.acks ∙ ap (λ (w : RecvView). w.acks) deals.end ∙ ap (λ (v : ReceiverView). v.end.acks) same;
-      held = rest.held ∙ ap (λ (w : RecvView). w.held) deals.end ∙ ap (λ (v : ReceiverView). v.end.held) same;
-    }
-
+  -- a turn that acknowledged nothing
+  module _ (rest : IsUnmoved d f) where
     same_left : bytes_left f ≡ bytes_left d
     same_left = ap (λ (n : ℕ). drop n (held_bytes f.end.held)) rest.at ∙ ap (λ (h : Option Packet). drop d.at (held_bytes h)) rest.held
 
@@ -113,3 +103,28 @@ module _ (o a d f : ReceiverView) (first : Receives o a) (deals : Deals a d) (la
     pub turn_rests : IsSome a.end.held ⊎ ReceiverIsStarved a → (bytes_left d ≡ []) ⊎ IsOwed d → (IsSome d.end.held → bytes_left d ≡ [] → ReceiverIsFull f) → ReceiverRests f
     turn_rests (inl some) stuck full = held_rests (subst (λ (w : RecvView). IsSome w.held) (sym deals.end) some) stuck full
     turn_rests (inr starved) stuck full = inr (inr (starved_still starved))
+
+    hand_unloaded : d.end.held ≡ None ⊎ IsSome d.end.held → (bytes_left d ≡ []) ⊎ IsOwed d → (IsSome d.end.held → bytes_left d ≡ [] → ReceiverIsFull f) → IsUnloaded f
+    hand_unloaded (inl none) stuck full = inl (rest.held ∙ none)
+    hand_unloaded (inr some) (inl nothing) full = inr (inr (full some nothing))
+    hand_unloaded (inr some) (inr owed) full = inr (inl (owed_still some owed))
+
+  pub turn_unloaded : (acked : Bool) → (IsTrue acked → f.end.held ≡ None) → (IsFalse acked → IsUnmoved d f) → (bytes_left d ≡ []) ⊎ IsOwed d → (IsFalse acked → IsSome d.end.held → bytes_left d ≡ [] → ReceiverIsFull f) → IsUnloaded f
+  turn_unloaded true none rest stuck full = inl (none refl)
+  turn_unloaded false none rest stuck full = hand_unloaded (rest refl) (none_or_some d.end.held) stuck (full refl)
+
+  -- a turn in which nothing moved
+  module _ (same : a ≡ o) (left free : ℕ) (le : left ≡ routers.free_count d.router) (fe : free ≡ routers.free_count a.router) (none : nat_lt left free ≡ false) (rest : IsUnmoved d f) where
+    same_sent : routers.sent_count d.router ≡ routers.sent_count a.router
+    same_sent = omega (arith, ltb-false left free none, le, fe, sums, deals.more)
+
+    pub turn_stays : ReceiverStays o f
+    turn_stays = record { stays = λ items k. last.stays.stays items ((deals.stays same_sent).stays items (first.stays.stays items k)) }
+
+    pub turn_still : ReceiverIsStill o f
+    turn_still = record {
+      sent = sent_df ∙ (same_sent ∙ sent_oa);
+      packets = rest.packets ∙ ap (λ (w : RecvView). w.packets) deals.end ∙ ap (λ (v : ReceiverView). v.end.packets) same;
+      acks = rest.acks ∙ ap (λ (w : RecvView). w.acks) deals.end ∙ ap (λ (v : ReceiverView). v.end.acks) same;
+      held = rest.held ∙ ap (λ (w : RecvView). w.held) deals.end ∙ ap (λ (v : ReceiverView). v.end.held) same;
+    }

@@ -1,4 +1,5 @@
 pub mod Data
+pub mod DoneLast
 pub mod Edge
 pub mod Lending
 pub mod Meeting

@@ -1,11 +1,12 @@
 -- The items that came to a sender, and those that it passes on: data as it came, the marks of all its queues together, and
 -- one Done at the end.
-use Rattle.std.specs.Prelude.{ℕ, zero, suc, ◌==◌, Bool, cond, ℤ, List, [], ◌∷◌, ◌++◌, Option, Some, None}
+use Rattle.std.specs.Prelude.{◌≡◌, ℕ, zero, suc, ◌<◌, ◌==◌, Bool, true, false, cond, ℤ, List, [], ◌∷◌, ◌++◌, Option, Some, None}
 use Rattle.std.specs.List.{flat_map, list_any}
 use Rattle.jet_items.specs.declared.item.Item.{Item}
 use Rattle.jet_items.specs.declared.item.Item.TheVariants as item
 use Rattle.jet_items.specs.Done.{is_done}
 use Rattle.jet_items.specs.Kinds.{marks_of}
+use Rattle.jet_items.specs.Order.{Each, EachPair}
 use Rattle.jet_coalescer.specs.declared.change.Change.{Change}
 use Rattle.jet_coalescer.specs.declared.change.Change.TheVariants as change
 use Rattle.jet_coalescer.specs.Low.{History, low, all_done, risen, change_of}
@@ -14,6 +15,15 @@ use Rattle.jet_coalescer.specs.Low.{History, low, all_done, risen, change_of}
 pub record Taken : Type 0 where
   pub queue : ℕ
   pub item : Item
+
+-- b may come after a: nothing comes from a queue after its Done
+abbrev pub MayFollow : Taken → Taken → Type 0
+MayFollow a b = is_done a.item ≡ true → (a.queue == b.queue) ≡ false
+
+-- each item came from one of this many queues, and after those that it may follow
+pub record InOrder (queues : ℕ) (came : List Taken) : Type 0 where
+  pub inside : Each (λ a. a.queue < queues) came
+  pub follows : EachPair MayFollow came
 
 -- what came from one queue, in its order
 abbrev pub of_queue : ℕ → List Taken → List Item

@@ -30,7 +30,7 @@ pub record ReceiverTurned (a b : ReceiverView) : Type 0 where
 abbrev pub moved_count : ReceiverView → ℕ
 moved_count v = router.sent_count v.router + (length v.end.packets.received + length v.end.acks.sent)
 
--- none was: both rings, the packet in hand and the counts of bytes are as they were
+-- none was: both rings of the link and the packet in hand are as they were, and no more items were sent
 pub record ReceiverIsStill (a b : ReceiverView) : Type 0 where
   pub sent : router.sent_count b.router ≡ router.sent_count a.router
   pub packets : b.end.packets ≡ a.end.packets
@@ -53,6 +53,10 @@ pub record ReceiverIsBlocked (v : ReceiverView) : Type 0 where
 pub record ReceiverIsFull (v : ReceiverView) : Type 0 where
   pub whole : v.end.whole ≡ true
   pub full : v.end.acks.free ≡ 0
+
+-- nothing is left half done: no packet is in hand, or its next item is owed, or it is counted and may not be acknowledged yet
+abbrev pub IsUnloaded : ReceiverView → Type 0
+IsUnloaded v = (v.end.held ≡ None) ⊎ (ReceiverIsBlocked v ⊎ ReceiverIsFull v)
 
 -- no packet is in hand, and none is known
 pub record ReceiverIsStarved (v : ReceiverView) : Type 0 where

@@ -12,7 +12,7 @@ use Rattle.jet_link.specs.Packets.{packed}
 use Rattle.jet_link.specs.Views.{SendView, send_view}
 use Rattle.jet_wire.specs.declared.sender.Sender.{Sender}
 use Rattle.jet_wire.specs.Noting.{items_in}
-use Rattle.jet_wire.specs.Passing.{Taken, of_queue, has_ended, heard, passed}
+use Rattle.jet_wire.specs.Passing.{Taken, InOrder, of_queue, has_ended, heard, passed}
 
 -- what a contract sees of a sender: its queues, their watermark, the item in hand and its end of the link
 pub record SenderView : Type 0 where
@@ -33,12 +33,13 @@ abbrev pub work_bytes : Option BufValue → List ℕ
 work_bytes None = []
 work_bytes (Some b) = b.bytes
 
--- these items came in this order: what each queue received is what came of it, the queue is done where that holds Done, and the coalescer heard it
+-- these items, each with its queue, came in this order: what each queue received is what came of it, the queue is done where that holds Done, after which nothing came of it, and the coalescer heard it
 pub record HasTaken (queues : conveyor.View) (lows : coalescer.View) (came : List Taken) : Type 0 where
   pub received_each : length queues.received ≡ length queues.rings
   pub done_each : length queues.done ≡ length queues.rings
   pub received_is : (q : ℕ) → q < length queues.rings → conveyor.received_at queues q ≡ of_queue q came
   pub done_is : (q : ℕ) → q < length queues.rings → conveyor.is_done_at queues q ≡ has_ended (of_queue q came)
+  pub in_order : InOrder (length queues.rings) came
   pub heard_is : HasHeard lows (heard (length queues.rings) came)
 
 -- these items were sent in packets, others stand in the packet that is being filled, and one may be in hand: together what is passed on of what came

@@ -30,7 +30,7 @@ impl Receiver {
     ghost use Rattle.jet_link.specs.Views.{recv_view};
     ghost use Rattle.jet_wire.specs.Receiver.{receiver_view, bytes_left, ReceiverKeeps, ReceiverIsLawful, ReceiverStays, Gives, IsPaced, IsUnsent};
     ghost use Rattle.jet_wire.specs.ReceiverSteps.{Deals, IsOwed, Receives, IsUnmoved};
-    ghost use Rattle.jet_wire.specs.ReceiverTurn.{ReceiverTurned, moved_count, ReceiverIsFull, ReceiverIsStarved, ReceiverIsStill, ReceiverHasEnded, ReceiverRests};
+    ghost use Rattle.jet_wire.specs.ReceiverTurn.{ReceiverTurned, moved_count, ReceiverIsFull, ReceiverIsStarved, IsUnloaded, ReceiverIsStill, ReceiverHasEnded, ReceiverRests};
     ghost use Rattle.jet_wire.specs.declared.progress.Progress.TheVariants as progress;
 
     /// A receiver that has received nothing, over the end of a new link and a router that has sent nothing.
@@ -135,6 +135,7 @@ impl Receiver {
         ensures receives { Receives (receiver_view self.old) (receiver_view self.new) }
         ensures paced { ((receiver_view self.new).end.part ≡ (receiver_view self.old).end.part) × ((receiver_view self.new).end.turns ≡ (receiver_view self.old).end.turns) }
         ensures acked { IsTrue result → length (receiver_view self.old).end.acks.sent < length (receiver_view self.new).end.acks.sent }
+        ensures empty { IsTrue result → (receiver_view self.new).end.held ≡ None }
         ensures still { IsFalse result → IsUnmoved (receiver_view self.old) (receiver_view self.new) }
         ensures full { IsFalse result → (receiver_view self.old).end.whole ≡ true → ReceiverIsFull (receiver_view self.new) }
     {
@@ -157,6 +158,7 @@ impl Receiver {
         ensures paced { IsPaced (receiver_view self.new) }
         ensures granted { IsGranted (receiver_view self.new).end }
         ensures acked { IsTrue result → length (receiver_view self.old).end.acks.sent < length (receiver_view self.new).end.acks.sent }
+        ensures empty { IsTrue result → (receiver_view self.new).end.held ≡ None }
         ensures still { IsFalse result → IsUnmoved (receiver_view self.old) (receiver_view self.new) }
         ensures full { IsFalse result → IsSome (receiver_view self.old).end.held → bytes_left (receiver_view self.old) ≡ [] → ReceiverIsFull (receiver_view self.new) }
     {
@@ -173,12 +175,14 @@ impl Receiver {
         self.ended && !self.end.holds()
     }
 
-    /// Gives the items of a packet to the router, as far as they go, and acknowledges the packet once all were given.
+    /// Gives the items of a packet to the router, as far as they go, and counts and acknowledges the packet once all were
+    /// given.
     pub fn turn(&mut self) -> Progress
         requires keeps { ReceiverIsLawful (receiver_view self.old) }
         ensures keeps { Gives (receiver_view self.old) (receiver_view self.new) }
         ensures paced { IsPaced (receiver_view self.new) }
         ensures turned { ReceiverTurned (receiver_view self.old) (receiver_view self.new) }
+        ensures unloaded { IsUnloaded (receiver_view self.new) }
         ensures done { result ≡ progress.Done → ReceiverHasEnded (receiver_view self.old) × (self.new ≡ self.old) }
         ensures after { ReceiverHasEnded (receiver_view self.old) → result ≡ progress.Done }
         ensures moved { result ≡ progress.Moved → moved_count (receiver_view self.old) < moved_count (receiver_view self.new) }

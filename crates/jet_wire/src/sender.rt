@@ -28,6 +28,7 @@ impl Sender {
     ghost use Rattle.jet_link.specs.Meeting.{IsNewSend};
     ghost use Rattle.jet_link.specs.Views.{send_view};
     ghost use Rattle.jet_wire.specs.Sender.{sender_view, work_bytes, SenderKeeps, IsLawful, Stays, Goes, IsUnread};
+    ghost use Rattle.jet_wire.specs.DoneLast.{SendsDoneLast};
     ghost use Rattle.jet_wire.specs.SenderSteps.{Sends, Takes, HasNothing, IsReady, IsStuck, IsFlushed, Went, TookNone};
     ghost use Rattle.jet_wire.specs.SenderTurn.{SenderTurned, received_count, move_count, SenderIsBarred, SenderIsStill, SenderHasEnded, SenderRests};
     ghost use Rattle.jet_wire.specs.declared.progress.Progress.TheVariants as progress;
@@ -214,4 +215,10 @@ impl Sender {
             Progress::Idle
         }
     }
+
+    /// A law for proofs above: of all that the sender passed on, Done stands nowhere but at the end, and there exactly where
+    /// every queue is done. The call does nothing.
+    pub fn law_done_last(&self)
+        ensures { SendsDoneLast (sender_view self.now) }
+    {}
 }

@@ -1,6 +1,6 @@
 use Rattle.std.proofs.Common.{nat_lt}
 use Rattle.jet_wire.specs.Receiver.{receiver_view}
-use Rattle.jet_wire.proofs.ReceiverTurns.{turn_gives, turn_turned, turn_moved, turn_stays, turn_still, turn_rests}
+use Rattle.jet_wire.proofs.ReceiverTurns.{turn_gives, turn_turned, turn_moved, turn_unloaded, turn_stays, turn_still, turn_rests}
 use Rattle.jet_wire.proofs.Turning.{none_of}
 use Rattle.jet_wire.proofs.receiver.Receiver.turn.Goals as goal
 
@@ -46,6 +46,15 @@ pub returns-else-moved-clause-idle : goal.returns-else-moved-clause-idle
 returns-else-moved-clause-idle c = λ _.
     let no = none_of c.receive-received.result c.settle-acked.result (nat_lt c.free-left.result c.free-free.result) c.if-moved.false in
     turn_rests (receiver_view c.args.self.now) (receiver_view c.receive-received.new.self) (receiver_view c.unload.new.self) (receiver_view c.settle-acked.new.self)
-    c.receive-received.ensures.receives c.unload.ensures.deals c.settle-acked.ensures.receives
-    (c.receive-received.ensures.same no.0) c.free-left.result c.free-free.result c.free-left.ensures c.free-free.ensures no.2 (c.settle-acked.ensures.still no.1)
+    c.receive-received.ensures.receives c.unload.ensures.deals c.settle-acked.ensures.receives (c.settle-acked.ensures.still no.1)
     (c.receive-received.ensures.none no.0) c.unload.ensures.stuck (c.settle-acked.ensures.full no.1)
+
+pub returns-then-moved-clause-unloaded : goal.returns-then-moved-clause-unloaded
+returns-then-moved-clause-unloaded c = turn_unloaded (receiver_view c.args.self.now) (receiver_view c.receive-received.new.self) (receiver_view c.unload.new.self) (receiver_view c.settle-acked.new.self)
+    c.receive-received.ensures.receives c.unload.ensures.deals c.settle-acked.ensures.receives
+    c.settle-acked.result c.settle-acked.ensures.empty c.settle-acked.ensures.still c.unload.ensures.stuck c.settle-acked.ensures.full
+
+pub returns-else-moved-clause-unloaded : goal.returns-else-moved-clause-unloaded
+returns-else-moved-clause-unloaded c = turn_unloaded (receiver_view c.args.self.now) (receiver_view c.receive-received.new.self) (receiver_view c.unload.new.self) (receiver_view c.settle-acked.new.self)
+    c.receive-received.ensures.receives c.unload.ensures.deals c.settle-acked.ensures.receives
+    c.settle-acked.result c.settle-acked.ensures.empty c.settle-acked.ensures.still c.unload.ensures.stuck c.settle-acked.ensures.full
