@@ -47,16 +47,24 @@ one_kind f j none nor rows (MarkTold t) = refl
 one_kind f j none nor rows (QueueClosed port q) = refl
 one_kind f j none nor rows Finish = refl
 
+-- what is picked of all that is given, where each entry gives what `of` says
+by_entry : {X : Type 0} (pick : Item → List X) (of : CallEntry → List X) (j : Joining) → ((rows : List SideValue) (e : CallEntry) → flat_map pick (gives j rows e) ≡ of e) → (rows : List SideValue) (es : List CallEntry)
+    → flat_map pick (all_given j rows es) ≡ flat_map of es
+by_entry pick of j each rows [] = refl
+by_entry pick of j each rows (e ∷ es) =
+    let more : List SideValue = rows ++ sides_of (build_items e) in
+    flat_map-append pick (gives j rows e) (all_given j more es)
+    ∙ (ap (λ xs. xs ++ flat_map pick (all_given j more es)) (each rows e)
+    ∙ ap (λ xs. of e ++ xs) (by_entry pick of j each more es))
+
+picked : {X : Type 0} (pick : Item → List X) (es : List CallEntry) → flat_map (λ e. flat_map pick (entry_items e)) es ≡ flat_map pick (items_of es)
+picked pick [] = refl
+picked pick (e ∷ es) = ap (λ xs. flat_map pick (entry_items e) ++ xs) (picked pick es) ∙ sym (flat_map-append pick (entry_items e) (items_of es))
+
 -- a kind that is neither joined nor kept passes unchanged
 pub same_kind : {X : Type 0} (f : Item → List X) (j : Joining) → ((d : EventValue) → f (item.Event d) ≡ []) → ((s : SideValue) → f (item.Side s) ≡ []) → (rows : List SideValue) (es : List CallEntry)
     → flat_map f (all_given j rows es) ≡ flat_map f (items_of es)
-same_kind f j none nor rows [] = refl
-same_kind f j none nor rows (e ∷ es) =
-    let more : List SideValue = rows ++ sides_of (build_items e) in
-    flat_map-append f (gives j rows e) (all_given j more es)
-    ∙ (ap (λ xs. xs ++ flat_map f (all_given j more es)) (one_kind f j none nor rows e)
-    ∙ (ap (λ xs. flat_map f (entry_items e) ++ xs) (same_kind f j none nor more es)
-    ∙ sym (flat_map-append f (entry_items e) (items_of es))))
+same_kind f j none nor rows es = by_entry f (λ e. flat_map f (entry_items e)) j (one_kind f j none nor) rows es ∙ picked f es
 
 one_sides : (j : Joining) (rows : List SideValue) (e : CallEntry) → sides_of (gives j rows e) ≡ sides_of (stream_items e)
 one_sides j rows (Given Stream q (item.Event e)) = none_of as_side (λ d. refl) (joined j rows e)
@@ -68,12 +76,7 @@ one_sides j rows (QueueClosed port q) = refl
 one_sides j rows Finish = refl
 
 pub same_sides : (j : Joining) (rows : List SideValue) (es : List CallEntry) → sides_of (all_given j rows es) ≡ stream_sides es
-same_sides j rows [] = refl
-same_sides j rows (e ∷ es) =
-    let more : List SideValue = rows ++ sides_of (build_items e) in
-    flat_map-append as_side (gives j rows e) (all_given j more es)
-    ∙ (ap (λ xs. xs ++ sides_of (all_given j more es)) (one_sides j rows e)
-    ∙ ap (λ xs. sides_of (stream_items e) ++ xs) (same_sides j more es))
+same_sides j rows es = by_entry as_side (λ e. sides_of (stream_items e)) j (one_sides j) rows es
 
 -- ---- the events
 all_of_them : (ds : List EventValue) → events_of (map item.Event ds) ≡ ds
