@@ -1,6 +1,7 @@
 -- The answer of a text is what the grammar says of it.
 use Rattle.std.proofs.Common.{◌≡◌, ◌≢◌, ℕ, zero, suc, ◌≤◌, ◌<◌, ◌+◌, Bool, true, false, cond, List, [], ◌∷◌, ◌++◌, length, Option, Some, None, Result, Ok, Err, refl, ap, sym, subst, ◌∙◌, arith, inl, inr}
 use Rattle.std.proofs.lemmas.Bool.{le-leb, lt-leb, leb-true, leb-false, cond_both, cases_lt}
+use Rattle.std.proofs.lemmas.Option.{same_Some, none-some}
 use Rattle.std.proofs.lemmas.List.{append-nil}
 use Rattle.std.specs.Prelude.{nat_le, not, pred, ◌==◌, ◌⊎◌}
 use Rattle.std.proofs.lemmas.Int.{ints}
@@ -19,7 +20,7 @@ use Rattle.jet_expr.specs.declared.operator.Operator.TheVariants.{Subtract}
 use Rattle.jet_expr.specs.declared.token.Token.{Token}
 use Rattle.jet_expr.specs.declared.token.Token.TheVariants as token
 use Rattle.jet_expr.proofs.Follows.{trees, reads_all}
-use Rattle.jet_expr.proofs.Goes.{run, goes, Gone, follows_low, Read, run_read, begun, starts, starts_low, read_more, some_same, none_some}
+use Rattle.jet_expr.proofs.Goes.{run, goes, Gone, follows_low, Read, run_read, begun, starts, starts_low, read_more}
 use Rattle.jet_expr.proofs.Ends.{AreDone, done_advance}
 use Rattle.jet_expr.proofs.Maps.{outcome_terms, result_terms}
 
@@ -69,17 +70,7 @@ caused full before at t d = plain before at t (λ x. x) (λ x. x) (λ x. x)
 
 above_alone : (t : Token) → IsAbove t → Opens t → ⊥
 above_alone (token.Number n) a o = o
-above_alone (token.Read f) a o = a
-above_alone (token.Sign op) a o = a
-above_alone token.Not a o = a
-above_alone token.Absolute a o = a
-above_alone token.If a o = a
-above_alone token.Open a o = a
-above_alone token.Close a o = a
-above_alone token.Comma a o = a
-above_alone token.Unknown a o = a
-above_alone token.Stray a o = a
-above_alone token.End a o = a
+above_alone t a o = a
 
 -- and no other
 pub one_cause : (f g : ExprFault) (before : List Token) (at : ℕ) (t : Token) → IsCause f before at t → IsCause g before at t → f ≡ g
@@ -111,12 +102,12 @@ run_step : (s next : State Syntax) (t : Token) (ts : List Token) → advance tre
 run_step s next t ts e = ap (λ (o : Option (State Syntax)). on_step o (λ n. run n ts) None) e
 
 run_append_some : (xs ys : List Token) (s mid : State Syntax) → run s xs ≡ Some mid → run s (xs ++ ys) ≡ run mid ys
-run_append_some [] ys s mid e = ap (λ (x : State Syntax). run x ys) (some_same s mid e)
+run_append_some [] ys s mid e = ap (λ (x : State Syntax). run x ys) (same_Some s mid e)
 run_append_some (t ∷ xs) ys s mid e = over xs ys mid (advance trees s t) (λ next is. run_append_some xs ys next mid is) e
   where
     over : (xs ys : List Token) (mid : State Syntax) (o : Option (State Syntax)) → ((next : State Syntax) → run next xs ≡ Some mid → run next (xs ++ ys) ≡ run mid ys)
         → on_step o (λ n. run n xs) None ≡ Some mid → on_step o (λ n. run n (xs ++ ys)) None ≡ run mid ys
-    over xs ys mid None more e = absurd (none_some mid e)
+    over xs ys mid None more e = absurd (none-some mid e)
     over xs ys mid (Some next) more e = more next e
 
 -- the tokens of a text of the grammar are gone over
@@ -128,7 +119,7 @@ pub full_decides : (ts : List Token) (s : State Syntax) → run (want []) ts ≡
 full_decides ts s e = record {
   yes_full = λ is x.
       let g = starts_run ts x in
-      let same : s ≡ g.state = some_same s g.state (sym e ∙ g.runs) in
+      let same : s ≡ g.state = same_Some s g.state (sym e ∙ g.runs) in
       let low : open_in g.state ≤ open_first x.rest = follows_low g.state (done x.tree) x.rest g.follows refl in
       let high : 31 < open_in s = leb-false (open_in s) 31 (not_true (nat_le (open_in s) 31) is) in
       omega (arith, low, high, ap open_in same);
@@ -150,13 +141,13 @@ full_decides ts s e = record {
 -- ---- the answer at a token at which nothing goes on
 
 outcome_runs : (ps : List (ℕ × Token)) (qs : List (ℕ × Token)) (s mid : State Syntax) → run s (tokens_in ps) ≡ Some mid → outcome trees s (ps ++ qs) ≡ outcome trees mid qs
-outcome_runs [] qs s mid e = ap (λ (x : State Syntax). outcome trees x qs) (some_same s mid e)
+outcome_runs [] qs s mid e = ap (λ (x : State Syntax). outcome trees x qs) (same_Some s mid e)
 outcome_runs (p ∷ ps) qs s mid e = over p ps qs mid (Err (fault_at (is_full s) p.0 p.1)) (advance trees s p.1) (λ next is. outcome_runs ps qs next mid is) e
   where
     over : (p : ℕ × Token) (ps qs : List (ℕ × Token)) (mid : State Syntax) (stop : Result Syntax ExprFault) (o : Option (State Syntax))
         → ((next : State Syntax) → run next (tokens_in ps) ≡ Some mid → outcome trees next (ps ++ qs) ≡ outcome trees mid qs)
         → on_step o (λ n. run n (tokens_in ps)) None ≡ Some mid → on_step o (λ n. outcome trees n (ps ++ qs)) stop ≡ outcome trees mid qs
-    over p ps qs mid stop None more e = absurd (none_some mid e)
+    over p ps qs mid stop None more e = absurd (none-some mid e)
     over p ps qs mid stop (Some next) more e = more next e
 
 -- ---- answers
@@ -304,7 +295,7 @@ stops_of text f short e =
         goes = starts s.state before (run_read before [] (want []) s.state begun s.runs);
         ends = λ x.
             let g = starts_run (before ++ s.next ∷ []) x in
-            none_some g.state (sym (run_append_some before (s.next ∷ []) (want []) s.state s.runs ∙ ap (λ (o : Option (State Syntax)). on_step o (λ n. run n []) None) s.stops) ∙ g.runs);
+            none-some g.state (sym (run_append_some before (s.next ∷ []) (want []) s.state s.runs ∙ ap (λ (o : Option (State Syntax)). on_step o (λ n. run n []) None) s.stops) ∙ g.runs);
       };
       cause = subst (λ (x : ExprFault). IsCause x before s.at s.next) (sym s.fault) (caused (is_full s.state) before s.at s.next (full_decides before s.state s.runs));
     }
@@ -376,11 +367,8 @@ pub expression_back : (text : List ℕ) (t : Term) → IsExpression text t → e
 expression_back text t x = read_terms text x.short ∙ (ap result_terms (tree_back text x.tree x.formed x.fits) ∙ ap Ok x.means)
 
 not_large : (text : List ℕ) (f : ExprFault) → Faults text f → IsFaultOf text f
-not_large text (fault.Unknown p) x = x
-not_large text (fault.Expected p) x = x
-not_large text (fault.NumberRange p) x = x
-not_large text fault.Deep x = x
 not_large text fault.Large x = absurd x.cause
+not_large text f x = x
 
 pub fault_is : (text : List ℕ) (f : ExprFault) → expr_at text ≡ Err f → IsFaultOf text f
 fault_is text f e = elim (large_or text) [

@@ -6,7 +6,7 @@ use Rattle.jet_expr.specs.Syntax.{Syntax, number, read, group, one, two, choose,
 use Rattle.jet_expr.specs.Machine.{Maker, Bracket, alone, size, first, second, condition, chosen, other, Frame, prefix, left, inside, State, want, named, have, done, openers, bracketed, open_in, need, infix_least, reduce, close, comma, on_sign, on_close, on_comma, on_end, closed, gone_on, step}
 use Rattle.jet_expr.specs.declared.operator.Unary.TheVariants.{Negate, Not, Absolute}
 use Rattle.jet_expr.specs.declared.operator.Operator.{Operator}
-use Rattle.jet_expr.specs.declared.operator.Operator.TheVariants.{Add, Subtract, Multiply, Divide, Remainder, Equal, Unequal, Less, AtMost, Greater, AtLeast, And, Or, Least, Greatest}
+use Rattle.jet_expr.specs.declared.operator.Operator.TheVariants.{Add, And, Or, Least, Greatest}
 use Rattle.jet_expr.specs.declared.token.Token.{Token}
 use Rattle.jet_expr.specs.declared.token.Token.TheVariants as token
 
@@ -90,20 +90,7 @@ call name b K ms tree is high inner = record {
 
 pub strict : (op : Operator) → level_of op < infix_least op
 strict Add = omega arith
-strict Subtract = omega arith
-strict Multiply = omega arith
-strict Divide = omega arith
-strict Remainder = omega arith
-strict Equal = omega arith
-strict Unequal = omega arith
-strict Less = omega arith
-strict AtMost = omega arith
-strict Greater = omega arith
-strict AtLeast = omega arith
-strict And = omega arith
-strict Or = omega arith
-strict Least = omega arith
-strict Greatest = omega arith
+strict op = omega arith
 
 pub record IsBetween (op : Operator) : Type 0 where
   pub «left» : level_of op ≤ left_least op
@@ -113,21 +100,11 @@ pub record IsBetween (op : Operator) : Type 0 where
   pub apart : 2 ≤ level_of op → 3 ≤ left_least op
 
 pub between : (op : Operator) → is_infix op ≡ true → IsBetween op
-between Add e = record { «left» = omega arith; low = omega arith; top = omega arith; «right» = refl; apart = λ h. omega arith }
-between Subtract e = record { «left» = omega arith; low = omega arith; top = omega arith; «right» = refl; apart = λ h. omega arith }
-between Multiply e = record { «left» = omega arith; low = omega arith; top = omega arith; «right» = refl; apart = λ h. omega arith }
-between Divide e = record { «left» = omega arith; low = omega arith; top = omega arith; «right» = refl; apart = λ h. omega arith }
-between Remainder e = record { «left» = omega arith; low = omega arith; top = omega arith; «right» = refl; apart = λ h. omega arith }
-between Equal e = record { «left» = omega arith; low = omega arith; top = omega arith; «right» = refl; apart = λ h. omega arith }
-between Unequal e = record { «left» = omega arith; low = omega arith; top = omega arith; «right» = refl; apart = λ h. omega arith }
-between Less e = record { «left» = omega arith; low = omega arith; top = omega arith; «right» = refl; apart = λ h. omega arith }
-between AtMost e = record { «left» = omega arith; low = omega arith; top = omega arith; «right» = refl; apart = λ h. omega arith }
-between Greater e = record { «left» = omega arith; low = omega arith; top = omega arith; «right» = refl; apart = λ h. omega arith }
-between AtLeast e = record { «left» = omega arith; low = omega arith; top = omega arith; «right» = refl; apart = λ h. omega arith }
-between And e = record { «left» = omega arith; low = omega arith; top = omega arith; «right» = refl; apart = λ h. absurd (omega (arith, h)) }
-between Or e = record { «left» = omega arith; low = omega arith; top = omega arith; «right» = refl; apart = λ h. absurd (omega (arith, h)) }
 between Least e = absurd (false≢true e)
 between Greatest e = absurd (false≢true e)
+between And e = record { «left» = omega arith; low = omega arith; top = omega arith; «right» = refl; apart = λ h. absurd (omega (arith, h)) }
+between Or e = record { «left» = omega arith; low = omega arith; top = omega arith; «right» = refl; apart = λ h. absurd (omega (arith, h)) }
+between op e = record { «left» = omega arith; low = omega arith; top = omega arith; «right» = refl; apart = λ h. omega arith }
 
 -- an operator that the stack takes leaves the stack as it is
 stays : (op : Operator) (K : List (Frame Syntax)) (e : Syntax) → is_infix op ≡ true → need K ≤ level_of op → reduce trees (left_least op) K e ≡ (K, e)

@@ -2,6 +2,7 @@
 use Rattle.std.proofs.Common.{◌≡◌, ℕ, suc, ◌≤◌, Bool, true, cond, List, [], ◌∷◌, ◌++◌, Option, Some, None, refl, ap, sym, subst, ◌∙◌, arith}
 use Rattle.std.proofs.lemmas.Bool.{le-leb, leb-true, cond_both}
 use Rattle.std.proofs.lemmas.List.{append_assoc, append-nil}
+use Rattle.std.proofs.lemmas.Option.{same_Some, none-some}
 use Rattle.std.specs.Prelude.{nat_le}
 use Rattle.jet_expr.specs.Syntax.{Syntax, number, group, one, two, choose, level, IsFormed, Mark, spelled, marked}
 use Rattle.jet_expr.specs.Grammar.{Fits, Starts, open_first}
@@ -82,12 +83,7 @@ first_open [] = refl
 first_open (prefix op ∷ K) = first_open K
 first_open (left op a ∷ K) = first_open K
 first_open (inside alone ∷ K) = refl
-first_open (inside size ∷ K) = refl
-first_open (inside (first op) ∷ K) = refl
-first_open (inside (second op a) ∷ K) = refl
-first_open (inside condition ∷ K) = refl
-first_open (inside (chosen c) ∷ K) = refl
-first_open (inside (other c a) ∷ K) = refl
+first_open (inside b ∷ K) = refl
 
 bracket_formed : (b : Bracket Syntax) (e : Syntax) → GoodBracket b → IsFormed e → IsFormed (bracket_whole b e)
 bracket_formed alone e g f = f
@@ -99,13 +95,9 @@ bracket_formed (chosen c) e g f = (g, f, omega arith)
 bracket_formed (other c a) e g f = (g.0, g.1, f)
 
 bracket_high : (b : Bracket Syntax) (e : Syntax) → GoodBracket b → level (bracket_whole b e) ≡ 7
-bracket_high alone e g = refl
-bracket_high size e g = refl
 bracket_high (first op) e g = (outside op g).high
 bracket_high (second op a) e g = (outside op g.0).high
-bracket_high condition e g = refl
-bracket_high (chosen c) e g = refl
-bracket_high (other c a) e g = refl
+bracket_high b e g = refl
 
 whole_formed : (K : List (Frame Syntax)) (e : Syntax) → Good K → IsFormed e → need K ≤ level e → IsFormed (whole K e)
 whole_formed [] e g f n = f
@@ -205,28 +197,12 @@ pub record Read (s : State Syntax) (ts : List Token) : Type 0 where
   pub surely : open_in s ≤ 32
   pub fits : Fits ts (state_marks s) []
 
-some_or : {A : Type 0} → A → Option A → A
-some_or d None = d
-some_or d (Some x) = x
-
-pub some_same : {A : Type 0} (x y : A) → Some x ≡ Some y → x ≡ y
-unfolding some_or
-some_same x y e = ap (some_or x) e
-
-IsThere : {A : Type 0} → Option A → Type 0
-IsThere None = ⊥
-IsThere (Some x) = Unit {0}
-
-pub none_some : {A : Type 0} (x : A) → None ≡ Some x → ⊥
-unfolding IsThere
-none_some x e = subst IsThere (sym e) tt
-
 shallow_next : (s : State Syntax) (t : Token) (next : State Syntax) (o : Option (State Syntax)) → OnNext s t o → if_shallow o ≡ Some next → Next s t next × (open_in next ≤ 32)
-shallow_next s t next None h e = absurd (none_some next e)
+shallow_next s t next None h e = absurd (none-some next e)
 shallow_next s t next (Some x) h e =
     cond_both (nat_le (open_in x) 32) (Some x) None (λ (o : Option (State Syntax)). o ≡ Some next → (nat_le (open_in x) 32 ≡ true → open_in x ≤ 32) → Next s t next × (open_in next ≤ 32))
-    (λ b is le. let same : x ≡ next = some_same x next is in subst (λ (y : State Syntax). Next s t y × (open_in y ≤ 32)) same (h, le b))
-    (λ b is le. absurd (none_some next is)) e (leb-true (open_in x) 32)
+    (λ b is le. let same : x ≡ next = same_Some x next is in subst (λ (y : State Syntax). Next s t y × (open_in y ≤ 32)) same (h, le b))
+    (λ b is le. absurd (none-some next is)) e (leb-true (open_in x) 32)
 
 fits_push : (ts : List Token) (ms : List Mark) (t : Token) (d : ℕ) → d ≤ 32 → Fits ts ms [] → Fits (ts ++ t ∷ []) (ms ++ (t, d) ∷ []) []
 fits_push [] ms t d h f = subst (λ (x : List Mark). Fits (t ∷ []) (x ++ (t, d) ∷ []) []) (sym f.0) (refl, h, (refl, omega arith))
@@ -251,12 +227,12 @@ read_more s ts t next r e =
 going : (ts before : List Token) (t : Token) (s end : State Syntax) (o : Option (State Syntax)) → Read s before → advance trees s t ≡ o
     → ((next : State Syntax) → Read next (before ++ t ∷ []) → run next ts ≡ Some end → Read end ((before ++ t ∷ []) ++ ts))
     → on_step o (λ next. run next ts) None ≡ Some end → Read end (before ++ t ∷ ts)
-going ts before t s end None r is more e = absurd (none_some end e)
+going ts before t s end None r is more e = absurd (none-some end e)
 going ts before t s end (Some next) r is more e =
     subst (λ (x : List Token). Read end x) (append_assoc before (t ∷ []) ts) (more next (read_more s before t next r is) e)
 
 pub run_read : (ts before : List Token) (s end : State Syntax) → Read s before → run s ts ≡ Some end → Read end (before ++ ts)
-run_read [] before s end r e = subst (λ (x : List Token). Read end x) (sym (append-nil before)) (subst (λ (x : State Syntax). Read x before) (some_same s end e) r)
+run_read [] before s end r e = subst (λ (x : List Token). Read end x) (sym (append-nil before)) (subst (λ (x : State Syntax). Read x before) (same_Some s end e) r)
 run_read (t ∷ ts) before s end r e = going ts before t s end (advance trees s t) r refl (λ next q is. run_read ts (before ++ t ∷ []) next end q is) e
 
 pub begun : Read (want []) []

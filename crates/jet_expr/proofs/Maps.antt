@@ -102,12 +102,7 @@ sign_terms op r =
 
 bracket_close : (K : List (Frame Syntax)) (b : Bracket Syntax) (e : Syntax) → closed (stack_terms K) (close terms (bracket_terms b) (meaning e)) ≡ option_map state_terms (closed K (close trees b e))
 bracket_close K alone e = refl
-bracket_close K size e = refl
-bracket_close K (first op) e = refl
-bracket_close K (second op a) e = refl
-bracket_close K condition e = refl
-bracket_close K (chosen c) e = refl
-bracket_close K (other c a) e = refl
+bracket_close K b e = refl
 
 close_terms : (K : List (Frame Syntax)) (e : Syntax) → on_close terms (stack_terms K) (meaning e) ≡ option_map state_terms (on_close trees K e)
 close_terms [] e = refl
@@ -117,12 +112,7 @@ close_terms (inside b ∷ K) e = bracket_close K b e
 
 bracket_comma : (K : List (Frame Syntax)) (b : Bracket Syntax) (e : Syntax) → gone_on (stack_terms K) (comma (bracket_terms b) (meaning e)) ≡ option_map state_terms (gone_on K (comma b e))
 bracket_comma K alone e = refl
-bracket_comma K size e = refl
-bracket_comma K (first op) e = refl
-bracket_comma K (second op a) e = refl
-bracket_comma K condition e = refl
-bracket_comma K (chosen c) e = refl
-bracket_comma K (other c a) e = refl
+bracket_comma K b e = refl
 
 comma_terms : (K : List (Frame Syntax)) (e : Syntax) → on_comma (stack_terms K) (meaning e) ≡ option_map state_terms (on_comma K e)
 comma_terms [] e = refl

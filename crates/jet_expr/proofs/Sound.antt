@@ -9,7 +9,7 @@ use Rattle.jet_expr.specs.Machine.{Bracket, alone, size, first, second, conditio
 use Rattle.jet_expr.specs.declared.operator.Unary.{Unary}
 use Rattle.jet_expr.specs.declared.operator.Unary.TheVariants.{Negate, Not, Absolute}
 use Rattle.jet_expr.specs.declared.operator.Operator.{Operator}
-use Rattle.jet_expr.specs.declared.operator.Operator.TheVariants.{Add, Subtract, Multiply, Divide, Remainder, Equal, Unequal, Less, AtMost, Greater, AtLeast, And, Or, Least, Greatest}
+use Rattle.jet_expr.specs.declared.operator.Operator.TheVariants.{Subtract, Least, Greatest}
 use Rattle.jet_expr.specs.declared.token.Token.{Token}
 use Rattle.jet_expr.specs.declared.token.Token.TheVariants as token
 use Rattle.jet_expr.proofs.Follows.{trees, between}
@@ -96,21 +96,9 @@ GoodState (have K e) = Good K × IsFormed e × (level e ≡ 7)
 GoodState (done e) = IsFormed e
 
 needed : (op : Operator) → is_infix op ≡ true → infix_least op ≤ 6
-needed Add e = omega arith
-needed Subtract e = omega arith
-needed Multiply e = omega arith
-needed Divide e = omega arith
-needed Remainder e = omega arith
-needed Equal e = omega arith
-needed Unequal e = omega arith
-needed Less e = omega arith
-needed AtMost e = omega arith
-needed Greater e = omega arith
-needed AtLeast e = omega arith
-needed And e = omega arith
-needed Or e = omega arith
 needed Least e = absurd (false≢true e)
 needed Greatest e = absurd (false≢true e)
+needed op e = omega arith
 
 pub need_low : (K : List (Frame Syntax)) → Good K → need K ≤ 6
 need_low [] g = omega arith
@@ -127,19 +115,7 @@ pub record IsOutside (op : Operator) : Type 0 where
 pub outside : (op : Operator) → is_infix op ≡ false → IsOutside op
 outside Least e = record { high = refl; «left» = refl; «right» = refl }
 outside Greatest e = record { high = refl; «left» = refl; «right» = refl }
-outside Add e = absurd (false≢true (sym e))
-outside Subtract e = absurd (false≢true (sym e))
-outside Multiply e = absurd (false≢true (sym e))
-outside Divide e = absurd (false≢true (sym e))
-outside Remainder e = absurd (false≢true (sym e))
-outside Equal e = absurd (false≢true (sym e))
-outside Unequal e = absurd (false≢true (sym e))
-outside Less e = absurd (false≢true (sym e))
-outside AtMost e = absurd (false≢true (sym e))
-outside Greater e = absurd (false≢true (sym e))
-outside AtLeast e = absurd (false≢true (sym e))
-outside And e = absurd (false≢true (sym e))
-outside Or e = absurd (false≢true (sym e))
+outside op e = absurd (false≢true (sym e))
 
 pub operand_low : (op : Unary) → operand_least op ≤ prefix_least op
 operand_low Not = omega arith

@@ -59,42 +59,27 @@ unary_level Not = 2
 unary_level Negate = 6
 unary_level Absolute = 7
 
+abbrev pub is_comparison : Operator → Bool
+is_comparison Equal = true
+is_comparison Unequal = true
+is_comparison Less = true
+is_comparison AtMost = true
+is_comparison Greater = true
+is_comparison AtLeast = true
+is_comparison op = false
+
 -- The least level of an operand on the left: the operator's own, so that it groups from the left. But a comparison has
 -- none for an operand, and an argument of a call may have any.
 abbrev pub left_least : Operator → ℕ
-left_least Or = 0
-left_least And = 1
-left_least Equal = 4
-left_least Unequal = 4
-left_least Less = 4
-left_least AtMost = 4
-left_least Greater = 4
-left_least AtLeast = 4
-left_least Add = 4
-left_least Subtract = 4
-left_least Multiply = 5
-left_least Divide = 5
-left_least Remainder = 5
 left_least Least = 0
 left_least Greatest = 0
+left_least op = if is_comparison op then suc (level_of op) else level_of op
 
 -- the same on the right: one more than the operator's own
 abbrev pub right_least : Operator → ℕ
-right_least Or = 1
-right_least And = 2
-right_least Equal = 4
-right_least Unequal = 4
-right_least Less = 4
-right_least AtMost = 4
-right_least Greater = 4
-right_least AtLeast = 4
-right_least Add = 5
-right_least Subtract = 5
-right_least Multiply = 6
-right_least Divide = 6
-right_least Remainder = 6
 right_least Least = 0
 right_least Greatest = 0
+right_least op = suc (level_of op)
 
 -- the same of the operand of `not`, of a minus sign and of `abs`
 abbrev pub operand_least : Unary → ℕ

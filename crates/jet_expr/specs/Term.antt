@@ -45,11 +45,7 @@ field_at (suc (suc (suc (suc (suc n))))) = V3
 
 pub field_back : (f : Field) → field_at (field_number f) ≡ f
 field_back Ts = refl
-field_back Part = refl
-field_back V0 = refl
-field_back V1 = refl
-field_back V2 = refl
-field_back V3 = refl
+field_back f = refl
 
 abbrev pub unary_number : Unary → ℕ
 unary_number Negate = 0
@@ -63,8 +59,7 @@ unary_at (suc (suc n)) = Not
 
 pub unary_back : (f : Unary) → unary_at (unary_number f) ≡ f
 unary_back Negate = refl
-unary_back Absolute = refl
-unary_back Not = refl
+unary_back f = refl
 
 abbrev pub operator_number : Operator → ℕ
 operator_number Add = 0
@@ -94,20 +89,7 @@ operator_at = operator_in (Add ∷ Subtract ∷ Multiply ∷ Divide ∷ Remainde
 
 pub operator_back : (f : Operator) → operator_at (operator_number f) ≡ f
 operator_back Add = refl
-operator_back Subtract = refl
-operator_back Multiply = refl
-operator_back Divide = refl
-operator_back Remainder = refl
-operator_back Equal = refl
-operator_back Unequal = refl
-operator_back Less = refl
-operator_back AtMost = refl
-operator_back Greater = refl
-operator_back AtLeast = refl
-operator_back And = refl
-operator_back Or = refl
-operator_back Least = refl
-operator_back Greatest = refl
+operator_back f = refl
 
 abbrev pub parts : Term → List (ℕ × ℤ)
 parts (number z) = (0, z) ∷ []

@@ -49,18 +49,11 @@ pub fn left_least(op: Operator) -> u8
     ensures { result ≡ left_least op }
 {
     match op {
-        Operator::Or => 0,
+        Operator::Least | Operator::Greatest | Operator::Or => 0,
         Operator::And => 1,
-        Operator::Equal
-        | Operator::Unequal
-        | Operator::Less
-        | Operator::AtMost
-        | Operator::Greater
-        | Operator::AtLeast
-        | Operator::Add
-        | Operator::Subtract => 4,
         Operator::Multiply | Operator::Divide | Operator::Remainder => 5,
-        Operator::Least | Operator::Greatest => 0,
+        // Sums and comparisons.
+        _ => 4,
     }
 }
 

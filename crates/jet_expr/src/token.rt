@@ -10,7 +10,7 @@ use crate::field::Field;
 use crate::operator::Operator;
 
 /// A token of the text of an expression.
-#[derive(Clone, Copy, Debug, PartialEq, Eq)]
+#[derive(Clone, Copy)]
 pub enum Token {
     /// A number. One above 10^15 stands as 10^15 + 1.
     Number(u64),

@@ -15,7 +15,7 @@ use Rattle.jet_join.specs.declared.join.JoinP.{JoinP}
 use Rattle.jet_join.specs.declared.side_rows.SideRows.{SideRows}
 use Rattle.jet_join.specs.Kept.{kept_with}
 use Rattle.jet_boxes.specs.Ports.{build_items, build_rows}
-use Rattle.jet_join.specs.Stands.{gives, all_given, Keeps, JoinStands, JoinAmid, items_over, Puts}
+use Rattle.jet_join.specs.Stands.{gives, all_given, KeepsRows, JoinStands, JoinAmid, items_over, Puts}
 use Rattle.jet_join.specs.Calls.{JoinCall}
 use Rattle.jet_join.specs.Outs.{given-push, rows-push}
 
@@ -27,7 +27,7 @@ ended j kept next taken entry given put h all =
     ∙ (append_assoc (all_given j [] taken) (take next (gives j (build_rows taken) entry)) put
     ∙ (ap (λ xs. all_given j [] taken ++ xs) all ∙ sym (given-push j taken entry)))
 
-no_row_more : (kept : SideRows) (taken : List CallEntry) (entry : CallEntry) → sides_of (build_items entry) ≡ [] → Keeps kept (build_rows taken) → Keeps kept (build_rows (taken ++ entry ∷ []))
+no_row_more : (kept : SideRows) (taken : List CallEntry) (entry : CallEntry) → sides_of (build_items entry) ≡ [] → KeepsRows kept (build_rows taken) → KeepsRows kept (build_rows (taken ++ entry ∷ []))
 no_row_more kept taken entry none h key =
     h key ∙ ap (rows_with key) (sym (rows-push taken entry ∙ (ap (λ rs. build_rows taken ++ rs) none ∙ append-nil (build_rows taken))))
 
@@ -72,33 +72,15 @@ pass_call p entry x before after false put kept full one none = record {
 -- what a join does not treat passes as it is
 pub stream_passes : (j : Joining) (queue : ℕ) (x : Item) → ((e : EventValue) → x ≡ item.Event e → ⊥) → (rows : List SideValue) → gives j rows (Given Stream queue x) ≡ x ∷ []
 stream_passes j queue (item.Event e) h rows = absurd (h e refl)
-stream_passes j queue (item.Side s) h rows = refl
-stream_passes j queue (item.Frame f) h rows = refl
-stream_passes j queue (item.Row r) h rows = refl
-stream_passes j queue (item.Late l) h rows = refl
-stream_passes j queue item.Idle h rows = refl
-stream_passes j queue (item.Mark m) h rows = refl
-stream_passes j queue item.Done h rows = refl
+stream_passes j queue x h rows = refl
 
 pub build_passes : (j : Joining) (queue : ℕ) (x : Item) → ((s : SideValue) → x ≡ item.Side s → ⊥) → (rows : List SideValue) → gives j rows (Given Build queue x) ≡ x ∷ []
-build_passes j queue (item.Event e) h rows = refl
 build_passes j queue (item.Side s) h rows = absurd (h s refl)
-build_passes j queue (item.Frame f) h rows = refl
-build_passes j queue (item.Row r) h rows = refl
-build_passes j queue (item.Late l) h rows = refl
-build_passes j queue item.Idle h rows = refl
-build_passes j queue (item.Mark m) h rows = refl
-build_passes j queue item.Done h rows = refl
+build_passes j queue x h rows = refl
 
 pub no_row : (queue : ℕ) (x : Item) → ((s : SideValue) → x ≡ item.Side s → ⊥) → sides_of (build_items (Given Build queue x)) ≡ []
-no_row queue (item.Event e) h = refl
 no_row queue (item.Side s) h = absurd (h s refl)
-no_row queue (item.Frame f) h = refl
-no_row queue (item.Row r) h = refl
-no_row queue (item.Late l) h = refl
-no_row queue item.Idle h = refl
-no_row queue (item.Mark m) h = refl
-no_row queue item.Done h = refl
+no_row queue x h = refl
 
 -- ---- an entry that gives nothing
 none_true : (j : Joining) (kept : SideRows) (next : ℕ) (taken : List CallEntry) (entry : CallEntry) (given : List Item) → ((rows : List SideValue) → gives j rows entry ≡ []) → sides_of (build_items entry) ≡ []
@@ -163,7 +145,7 @@ want_call p q queue s before (Err e) err setting next kept = record {
 }
 
 -- ---- an event
-same_items : (j : Joining) (kept : SideRows) (rows : List SideValue) (e : EventValue) → Keeps kept rows → items_over j (kept_with e.key kept) e ≡ items_over j (rows_with e.key rows) e
+same_items : (j : Joining) (kept : SideRows) (rows : List SideValue) (e : EventValue) → KeepsRows kept rows → items_over j (kept_with e.key kept) e ≡ items_over j (rows_with e.key rows) e
 same_items j kept rows e h = ap (λ rs. map item.Event (or_itself j.left e (map (joined_with j e) rs))) (h e.key)
 
 pub event_place : (j : Joining) (kept : SideRows) (next : ℕ) (taken : List CallEntry) (queue : ℕ) (e : EventValue) (given : List Item) → JoinAmid j kept next taken (Given Stream queue (item.Event e)) given → next ≤ length (items_over j (kept_with e.key kept) e) - 1

@@ -58,21 +58,9 @@ event_shadow R f j rows e = record {
 
 shadow : (R : Item → Item → Type 0) (f : Fits R) (j : Joining) (rows : List SideValue) (e : CallEntry) → Shadows R (gives j rows e) (entry_items e)
 shadow R f j rows (Given Stream q (item.Event e)) = event_shadow R f j rows e
-shadow R f j rows (Given Stream q (item.Side s)) = Shadows-refl R _
-shadow R f j rows (Given Stream q (item.Frame g)) = Shadows-refl R _
-shadow R f j rows (Given Stream q (item.Row r)) = Shadows-refl R _
-shadow R f j rows (Given Stream q (item.Late l)) = Shadows-refl R _
-shadow R f j rows (Given Stream q item.Idle) = Shadows-refl R _
-shadow R f j rows (Given Stream q (item.Mark m)) = Shadows-refl R _
-shadow R f j rows (Given Stream q item.Done) = Shadows-refl R _
-shadow R f j rows (Given Build q (item.Event e)) = Shadows-refl R _
+shadow R f j rows (Given Stream q x) = Shadows-refl R _
 shadow R f j rows (Given Build q (item.Side s)) = Shadows-nil R _
-shadow R f j rows (Given Build q (item.Frame g)) = Shadows-refl R _
-shadow R f j rows (Given Build q (item.Row r)) = Shadows-refl R _
-shadow R f j rows (Given Build q (item.Late l)) = Shadows-refl R _
-shadow R f j rows (Given Build q item.Idle) = Shadows-refl R _
-shadow R f j rows (Given Build q (item.Mark m)) = Shadows-refl R _
-shadow R f j rows (Given Build q item.Done) = Shadows-refl R _
+shadow R f j rows (Given Build q x) = Shadows-refl R _
 shadow R f j rows (MarkTold t) = Shadows-refl R _
 shadow R f j rows (QueueClosed port q) = Shadows-refl R _
 shadow R f j rows Finish = Shadows-refl R _
@@ -83,24 +71,12 @@ ordered R f j taken h =
     (subst (EachPair R) (sym (items_are [] taken)) h)
 
 sound_second : (behind : ℕ → ℕ → Bool) (y : Item) (e : EventValue) (key : List ℕ) (v : List ℤ) → SoundAfter behind y (item.Event e) → SoundAfter behind y (item.Event (record e { key = key; v = v }))
-sound_second behind (item.Event d) e key v h = tt
-sound_second behind (item.Side s) e key v h = tt
-sound_second behind (item.Frame g) e key v h = tt
-sound_second behind (item.Row r) e key v h = tt
-sound_second behind (item.Late l) e key v h = tt
-sound_second behind item.Idle e key v h = tt
 sound_second behind (item.Mark m) e key v h = h
-sound_second behind item.Done e key v h = tt
+sound_second behind x e key v h = tt
 
 closed_second : (y : Item) (e : EventValue) (key : List ℕ) (v : List ℤ) → ClosedAfter y (item.Event e) → ClosedAfter y (item.Event (record e { key = key; v = v }))
-closed_second (item.Event d) e key v h = tt
-closed_second (item.Side s) e key v h = tt
-closed_second (item.Frame g) e key v h = tt
-closed_second (item.Row r) e key v h = tt
-closed_second (item.Late l) e key v h = tt
-closed_second item.Idle e key v h = tt
-closed_second (item.Mark m) e key v h = tt
 closed_second item.Done e key v h = h
+closed_second x e key v h = tt
 
 no_late : (behind : ℕ → ℕ → Bool) (ds : List EventValue) → Each (LateIsBehind behind) (map item.Event ds)
 no_late behind [] = tt
@@ -108,21 +84,9 @@ no_late behind (d ∷ ds) = (tt, no_late behind ds)
 
 lates_each : (behind : ℕ → ℕ → Bool) (j : Joining) (rows : List SideValue) (e : CallEntry) → Each (LateIsBehind behind) (entry_items e) → Each (LateIsBehind behind) (gives j rows e)
 lates_each behind j rows (Given Stream q (item.Event e)) h = no_late behind (joined j rows e)
-lates_each behind j rows (Given Stream q (item.Side s)) h = h
-lates_each behind j rows (Given Stream q (item.Frame g)) h = h
-lates_each behind j rows (Given Stream q (item.Row r)) h = h
-lates_each behind j rows (Given Stream q (item.Late l)) h = h
-lates_each behind j rows (Given Stream q item.Idle) h = h
-lates_each behind j rows (Given Stream q (item.Mark m)) h = h
-lates_each behind j rows (Given Stream q item.Done) h = h
-lates_each behind j rows (Given Build q (item.Event e)) h = h
+lates_each behind j rows (Given Stream q x) h = h
 lates_each behind j rows (Given Build q (item.Side s)) h = tt
-lates_each behind j rows (Given Build q (item.Frame g)) h = h
-lates_each behind j rows (Given Build q (item.Row r)) h = h
-lates_each behind j rows (Given Build q (item.Late l)) h = h
-lates_each behind j rows (Given Build q item.Idle) h = h
-lates_each behind j rows (Given Build q (item.Mark m)) h = h
-lates_each behind j rows (Given Build q item.Done) h = h
+lates_each behind j rows (Given Build q x) h = h
 lates_each behind j rows (MarkTold t) h = h
 lates_each behind j rows (QueueClosed port q) h = h
 lates_each behind j rows Finish h = h
@@ -175,21 +139,9 @@ no_done (d ∷ ds) = (tt, no_done ds)
 
 open_each : (j : Joining) (rows : List SideValue) (e : CallEntry) → Each NotDone (entry_items e) → Each NotDone (gives j rows e)
 open_each j rows (Given Stream q (item.Event e)) h = no_done (joined j rows e)
-open_each j rows (Given Stream q (item.Side s)) h = h
-open_each j rows (Given Stream q (item.Frame g)) h = h
-open_each j rows (Given Stream q (item.Row r)) h = h
-open_each j rows (Given Stream q (item.Late l)) h = h
-open_each j rows (Given Stream q item.Idle) h = h
-open_each j rows (Given Stream q (item.Mark m)) h = h
-open_each j rows (Given Stream q item.Done) h = h
-open_each j rows (Given Build q (item.Event e)) h = h
+open_each j rows (Given Stream q x) h = h
 open_each j rows (Given Build q (item.Side s)) h = tt
-open_each j rows (Given Build q (item.Frame g)) h = h
-open_each j rows (Given Build q (item.Row r)) h = h
-open_each j rows (Given Build q (item.Late l)) h = h
-open_each j rows (Given Build q item.Idle) h = h
-open_each j rows (Given Build q (item.Mark m)) h = h
-open_each j rows (Given Build q item.Done) h = h
+open_each j rows (Given Build q x) h = h
 open_each j rows (MarkTold t) h = h
 open_each j rows (QueueClosed port q) h = h
 open_each j rows Finish h = h
@@ -237,13 +189,7 @@ none_yet (suc n) x h = absurd (omega (arith, h))
 
 marks_yet : (j : Joining) (rows : List SideValue) (next : ℕ) (e : CallEntry) → next ≤ length (gives j rows e) - 1 → marks_of (take next (gives j rows e)) ≡ []
 marks_yet j rows next (Given Stream q (item.Event e)) h = ap marks_of (take-map item.Event next (joined j rows e)) ∙ no_marks (take next (joined j rows e))
-marks_yet j rows next (Given Stream q (item.Side s)) h = ap marks_of (none_yet next (item.Side s) h)
-marks_yet j rows next (Given Stream q (item.Frame g)) h = ap marks_of (none_yet next (item.Frame g) h)
-marks_yet j rows next (Given Stream q (item.Row r)) h = ap marks_of (none_yet next (item.Row r) h)
-marks_yet j rows next (Given Stream q (item.Late l)) h = ap marks_of (none_yet next (item.Late l) h)
-marks_yet j rows next (Given Stream q item.Idle) h = ap marks_of (none_yet next item.Idle h)
-marks_yet j rows next (Given Stream q (item.Mark m)) h = ap marks_of (none_yet next (item.Mark m) h)
-marks_yet j rows next (Given Stream q item.Done) h = ap marks_of (none_yet next item.Done h)
+marks_yet j rows next (Given Stream q x) h = ap marks_of (none_yet next x h)
 marks_yet j rows next (Given Build q (item.Event e)) h = ap marks_of (none_yet next (item.Event e) h)
 marks_yet j rows zero (Given Build q (item.Side s)) h = refl
 marks_yet j rows (suc n) (Given Build q (item.Side s)) h = refl

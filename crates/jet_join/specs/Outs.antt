@@ -40,64 +40,43 @@ none_of f none (d ∷ ds) = ap (λ xs. xs ++ flat_map f (map item.Event ds)) (no
 
 one_kind : {X : Type 0} (f : Item → List X) (j : Joining) → ((d : EventValue) → f (item.Event d) ≡ []) → ((s : SideValue) → f (item.Side s) ≡ []) → (rows : List SideValue) (e : CallEntry) → flat_map f (gives j rows e) ≡ flat_map f (entry_items e)
 one_kind f j none nor rows (Given Stream q (item.Event e)) = none_of f none (joined j rows e) ∙ sym (append-nil (f (item.Event e)) ∙ none e)
-one_kind f j none nor rows (Given Stream q (item.Side s)) = refl
-one_kind f j none nor rows (Given Stream q (item.Frame g)) = refl
-one_kind f j none nor rows (Given Stream q (item.Row r)) = refl
-one_kind f j none nor rows (Given Stream q (item.Late l)) = refl
-one_kind f j none nor rows (Given Stream q item.Idle) = refl
-one_kind f j none nor rows (Given Stream q (item.Mark m)) = refl
-one_kind f j none nor rows (Given Stream q item.Done) = refl
-one_kind f j none nor rows (Given Build q (item.Event e)) = refl
+one_kind f j none nor rows (Given Stream q x) = refl
 one_kind f j none nor rows (Given Build q (item.Side s)) = sym (append-nil (f (item.Side s)) ∙ nor s)
-one_kind f j none nor rows (Given Build q (item.Frame g)) = refl
-one_kind f j none nor rows (Given Build q (item.Row r)) = refl
-one_kind f j none nor rows (Given Build q (item.Late l)) = refl
-one_kind f j none nor rows (Given Build q item.Idle) = refl
-one_kind f j none nor rows (Given Build q (item.Mark m)) = refl
-one_kind f j none nor rows (Given Build q item.Done) = refl
+one_kind f j none nor rows (Given Build q x) = refl
 one_kind f j none nor rows (MarkTold t) = refl
 one_kind f j none nor rows (QueueClosed port q) = refl
 one_kind f j none nor rows Finish = refl
 
+-- what is picked of all that is given, where each entry gives what `of` says
+by_entry : {X : Type 0} (pick : Item → List X) (of : CallEntry → List X) (j : Joining) → ((rows : List SideValue) (e : CallEntry) → flat_map pick (gives j rows e) ≡ of e) → (rows : List SideValue) (es : List CallEntry)
+    → flat_map pick (all_given j rows es) ≡ flat_map of es
+by_entry pick of j each rows [] = refl
+by_entry pick of j each rows (e ∷ es) =
+    let more : List SideValue = rows ++ sides_of (build_items e) in
+    flat_map-append pick (gives j rows e) (all_given j more es)
+    ∙ (ap (λ xs. xs ++ flat_map pick (all_given j more es)) (each rows e)
+    ∙ ap (λ xs. of e ++ xs) (by_entry pick of j each more es))
+
+picked : {X : Type 0} (pick : Item → List X) (es : List CallEntry) → flat_map (λ e. flat_map pick (entry_items e)) es ≡ flat_map pick (items_of es)
+picked pick [] = refl
+picked pick (e ∷ es) = ap (λ xs. flat_map pick (entry_items e) ++ xs) (picked pick es) ∙ sym (flat_map-append pick (entry_items e) (items_of es))
+
 -- a kind that is neither joined nor kept passes unchanged
 pub same_kind : {X : Type 0} (f : Item → List X) (j : Joining) → ((d : EventValue) → f (item.Event d) ≡ []) → ((s : SideValue) → f (item.Side s) ≡ []) → (rows : List SideValue) (es : List CallEntry)
     → flat_map f (all_given j rows es) ≡ flat_map f (items_of es)
-same_kind f j none nor rows [] = refl
-same_kind f j none nor rows (e ∷ es) =
-    let more : List SideValue = rows ++ sides_of (build_items e) in
-    flat_map-append f (gives j rows e) (all_given j more es)
-    ∙ (ap (λ xs. xs ++ flat_map f (all_given j more es)) (one_kind f j none nor rows e)
-    ∙ (ap (λ xs. flat_map f (entry_items e) ++ xs) (same_kind f j none nor more es)
-    ∙ sym (flat_map-append f (entry_items e) (items_of es))))
+same_kind f j none nor rows es = by_entry f (λ e. flat_map f (entry_items e)) j (one_kind f j none nor) rows es ∙ picked f es
 
 one_sides : (j : Joining) (rows : List SideValue) (e : CallEntry) → sides_of (gives j rows e) ≡ sides_of (stream_items e)
 one_sides j rows (Given Stream q (item.Event e)) = none_of as_side (λ d. refl) (joined j rows e)
-one_sides j rows (Given Stream q (item.Side s)) = refl
-one_sides j rows (Given Stream q (item.Frame g)) = refl
-one_sides j rows (Given Stream q (item.Row r)) = refl
-one_sides j rows (Given Stream q (item.Late l)) = refl
-one_sides j rows (Given Stream q item.Idle) = refl
-one_sides j rows (Given Stream q (item.Mark m)) = refl
-one_sides j rows (Given Stream q item.Done) = refl
+one_sides j rows (Given Stream q x) = refl
 one_sides j rows (Given Build q (item.Event e)) = refl
-one_sides j rows (Given Build q (item.Side s)) = refl
-one_sides j rows (Given Build q (item.Frame g)) = refl
-one_sides j rows (Given Build q (item.Row r)) = refl
-one_sides j rows (Given Build q (item.Late l)) = refl
-one_sides j rows (Given Build q item.Idle) = refl
-one_sides j rows (Given Build q (item.Mark m)) = refl
-one_sides j rows (Given Build q item.Done) = refl
+one_sides j rows (Given Build q x) = refl
 one_sides j rows (MarkTold t) = refl
 one_sides j rows (QueueClosed port q) = refl
 one_sides j rows Finish = refl
 
 pub same_sides : (j : Joining) (rows : List SideValue) (es : List CallEntry) → sides_of (all_given j rows es) ≡ stream_sides es
-same_sides j rows [] = refl
-same_sides j rows (e ∷ es) =
-    let more : List SideValue = rows ++ sides_of (build_items e) in
-    flat_map-append as_side (gives j rows e) (all_given j more es)
-    ∙ (ap (λ xs. xs ++ sides_of (all_given j more es)) (one_sides j rows e)
-    ∙ ap (λ xs. sides_of (stream_items e) ++ xs) (same_sides j more es))
+same_sides j rows es = by_entry as_side (λ e. sides_of (stream_items e)) j (one_sides j) rows es
 
 -- ---- the events
 all_of_them : (ds : List EventValue) → events_of (map item.Event ds) ≡ ds
@@ -106,21 +85,9 @@ all_of_them (d ∷ ds) = ap (λ es. d ∷ es) (all_of_them ds)
 
 one_events : (j : Joining) (rows : List SideValue) (e : CallEntry) → events_of (gives j rows e) ≡ flat_map (joined j rows) (events_of (stream_items e)) ++ events_of (build_items e)
 one_events j rows (Given Stream q (item.Event e)) = all_of_them (joined j rows e) ∙ sym (append-nil (joined j rows e ++ []) ∙ append-nil (joined j rows e))
-one_events j rows (Given Stream q (item.Side s)) = refl
-one_events j rows (Given Stream q (item.Frame g)) = refl
-one_events j rows (Given Stream q (item.Row r)) = refl
-one_events j rows (Given Stream q (item.Late l)) = refl
-one_events j rows (Given Stream q item.Idle) = refl
-one_events j rows (Given Stream q (item.Mark m)) = refl
-one_events j rows (Given Stream q item.Done) = refl
+one_events j rows (Given Stream q x) = refl
 one_events j rows (Given Build q (item.Event e)) = refl
-one_events j rows (Given Build q (item.Side s)) = refl
-one_events j rows (Given Build q (item.Frame g)) = refl
-one_events j rows (Given Build q (item.Row r)) = refl
-one_events j rows (Given Build q (item.Late l)) = refl
-one_events j rows (Given Build q item.Idle) = refl
-one_events j rows (Given Build q (item.Mark m)) = refl
-one_events j rows (Given Build q item.Done) = refl
+one_events j rows (Given Build q x) = refl
 one_events j rows (MarkTold t) = refl
 one_events j rows (QueueClosed port q) = refl
 one_events j rows Finish = refl

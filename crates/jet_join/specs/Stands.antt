@@ -19,23 +19,11 @@ items_over j rows e = map item.Event (or_itself j.left e (map (joined_with j e) 
 -- what an item of the stream gives over these rows, and what one of the build port gives
 abbrev pub stream_gives : Joining → List SideValue → Item → List Item
 stream_gives j rows (item.Event e) = items_over j (rows_with e.key rows) e
-stream_gives j rows (item.Side s) = item.Side s ∷ []
-stream_gives j rows (item.Frame f) = item.Frame f ∷ []
-stream_gives j rows (item.Row r) = item.Row r ∷ []
-stream_gives j rows (item.Late l) = item.Late l ∷ []
-stream_gives j rows item.Idle = item.Idle ∷ []
-stream_gives j rows (item.Mark m) = item.Mark m ∷ []
-stream_gives j rows item.Done = item.Done ∷ []
+stream_gives j rows x = x ∷ []
 
 abbrev pub build_gives : Item → List Item
-build_gives (item.Event e) = item.Event e ∷ []
 build_gives (item.Side s) = []
-build_gives (item.Frame f) = item.Frame f ∷ []
-build_gives (item.Row r) = item.Row r ∷ []
-build_gives (item.Late l) = item.Late l ∷ []
-build_gives item.Idle = item.Idle ∷ []
-build_gives (item.Mark m) = item.Mark m ∷ []
-build_gives item.Done = item.Done ∷ []
+build_gives x = x ∷ []
 
 -- what an entry gives over the rows that were taken before it
 abbrev pub gives : Joining → List SideValue → CallEntry → List Item
@@ -55,18 +43,18 @@ abbrev pub all_given : Joining → List SideValue → List CallEntry → List It
 all_given j rows taken = flat_map (λ p. gives j p.0 p.1) (with_rows rows taken)
 
 -- the rows are kept by their keys
-abbrev pub Keeps : SideRows → List SideValue → Type 0
-Keeps kept rows = (key : List ℕ) → kept_with key kept ≡ rows_with key rows
+abbrev pub KeepsRows : SideRows → List SideValue → Type 0
+KeepsRows kept rows = (key : List ℕ) → kept_with key kept ≡ rows_with key rows
 
 -- between two calls no event is in hand, and what was given is what the entries give
 pub record JoinStands (j : Joining) (kept : SideRows) (next : ℕ) (taken : List CallEntry) (given : List Item) : Type 0 where
-  pub keeps : Keeps kept (build_rows taken)
+  pub keeps : KeepsRows kept (build_rows taken)
   pub start : next ≡ 0
   pub gave : given ≡ all_given j [] taken
 
 -- in the middle of an entry as many items were put as `next` says
 pub record JoinAmid (j : Joining) (kept : SideRows) (next : ℕ) (taken : List CallEntry) (entry : CallEntry) (given : List Item) : Type 0 where
-  pub keeps : Keeps kept (build_rows taken)
+  pub keeps : KeepsRows kept (build_rows taken)
   pub place : next ≤ length (gives j (build_rows taken) entry) - 1
   pub gave : given ≡ all_given j [] taken ++ take next (gives j (build_rows taken) entry)
 

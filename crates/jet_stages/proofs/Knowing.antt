@@ -4,6 +4,7 @@ use Rattle.std.specs.Prelude.{int_lt, slice_get, if◌then◌else◌, IfSome}
 use Rattle.std.specs.List.{reduce, flat_map}
 use Rattle.std.specs.Option.{IsSomeAnd}
 use Rattle.std.specs.Int.{int_max}
+use Rattle.std.proofs.Math.Bool.{or-false, or-true}
 use Rattle.std.proofs.lemmas.Bool.Decides.{Decides-eqb}
 use Rattle.std.proofs.lemmas.Int.{ints}
 use Rattle.std.proofs.lemmas.List.{get_or-set_same, get_or-set_other, get_or-replicate, length-replicate}
@@ -58,20 +59,12 @@ not_queue false k q is apart = is
 
 -- ---- queues after an entry
 
-or_false : (b : Bool) → (b || false) ≡ b
-or_false true = refl
-or_false false = refl
-
-or_true : (b : Bool) → (b || true) ≡ true
-or_true true = refl
-or_true false = refl
-
 times_same : (q : ℕ) (taken : List CallEntry) (entry : CallEntry) → event_from q entry ≡ [] → queue_times q (taken ++ entry ∷ []) ≡ queue_times q taken
 times_same q taken entry none =
     ap (map (λ (e : EventValue). e.ts)) (events_next q taken entry ∙ (ap (λ es. queue_events q taken ++ es) none ∙ append-nil (queue_events q taken)))
 
 closed_same : (q : ℕ) (taken : List CallEntry) (entry : CallEntry) → closes q entry ≡ false → is_closed q (taken ++ entry ∷ []) ≡ is_closed q taken
-closed_same q taken entry not_this = closed_next q taken entry ∙ (ap (λ b. is_closed q taken || b) not_this ∙ or_false (is_closed q taken))
+closed_same q taken entry not_this = closed_next q taken entry ∙ (ap (λ b. is_closed q taken || b) not_this ∙ or-false (is_closed q taken))
 
 times_own : (k : ℕ) (taken : List CallEntry) (e : EventValue) → queue_times k (taken ++ Given Stream k (item.Event e) ∷ []) ≡ queue_times k taken ++ e.ts ∷ []
 times_own k taken e = times_next k taken (Given Stream k (item.Event e)) ∙ ap (λ (b : Bool). queue_times k taken ++ map (λ (x : EventValue). x.ts) (cond b (e ∷ []) [])) (same_queue k)
@@ -156,23 +149,12 @@ notes_called lag grain markers markers' queues queues' taken entry k change told
 
 not_event : (x : Item) → ((e : EventValue) → x ≡ item.Event e → ⊥) → as_event x ≡ []
 not_event (item.Event e) h = absurd (h e refl)
-not_event (item.Side s) h = refl
-not_event (item.Frame f) h = refl
-not_event (item.Row r) h = refl
-not_event (item.Late l) h = refl
-not_event item.Idle h = refl
-not_event (item.Mark m) h = refl
-not_event item.Done h = refl
+not_event x h = refl
 
 not_idle : (x : Item) → ((e : EventValue) → x ≡ item.Event e → ⊥) → (x ≡ item.Idle → ⊥) → idle_in x ≡ []
 not_idle (item.Event e) h k = absurd (h e refl)
-not_idle (item.Side s) h k = refl
-not_idle (item.Frame f) h k = refl
-not_idle (item.Row r) h k = refl
-not_idle (item.Late l) h k = refl
 not_idle item.Idle h k = absurd (k refl)
-not_idle (item.Mark m) h k = refl
-not_idle item.Done h k = refl
+not_idle x h k = refl
 
 cond_nil : {X : Type 0} (b : Bool) (xs : List X) → xs ≡ [] → cond b xs [] ≡ []
 cond_nil {X} true xs h = h
@@ -335,7 +317,7 @@ end_step queues queues' now told true is low least answer = by (step queues.low 
 pub notes_closed : (lag grain : ℤ) (markers : List MarkerValue) (queues queues' : View) (taken : List CallEntry) (k : ℕ) (told : Option ℤ) → k < length markers → Called queues queues' k with_queue_done told → Knows lag grain markers queues taken → Notes lag grain markers queues markers queues' taken (QueueClosed Stream k) told
 notes_closed lag grain markers queues queues' taken k told inside called knows =
     let entry : CallEntry = QueueClosed Stream k in
-    let own : is_closed k (taken ++ entry ∷ []) ≡ true = closed_next k taken entry ∙ (ap (λ b. is_closed k taken || b) (same_queue k) ∙ or_true (is_closed k taken)) in
+    let own : is_closed k (taken ++ entry ∷ []) ≡ true = closed_next k taken entry ∙ (ap (λ b. is_closed k taken || b) (same_queue k) ∙ or-true (is_closed k taken)) in
     notes_called lag grain markers markers queues queues' taken entry k with_queue_done told inside refl
     (λ q lt. knows.markers_are q lt ∙ ap (marker_at lag grain) (sym (times_same q taken entry refl)))
     called

@@ -1,5 +1,6 @@
 -- What a stamp's laws say goes on by one entry.
 use Rattle.std.proofs.Common.{◌≡◌, ◌≢◌, inl, inr, ◌<ℤ◌, ℕ, ◌<◌, ◌==◌, Bool, true, false, cond, ◌||◌, ℤ, pos, ◌≤ℤ◌, List, [], ◌∷◌, ◌++◌, map, Option, Some, None, refl, ap, sym, ◌∙◌, subst, arith, append_assoc, append-nil}
+use Rattle.std.proofs.Math.Bool.{or-false}
 use Rattle.std.proofs.lemmas.Bool.Decides.{Decides-eqb}
 use Rattle.std.proofs.lemmas.Int.{ints}
 use Rattle.std.specs.Prelude.{◌⊎◌, nat_lt}
@@ -39,11 +40,7 @@ pub times_next : (q : ℕ) (taken : List CallEntry) (entry : CallEntry) → queu
 times_next q taken entry = ap (map (λ (e : EventValue). e.ts)) (events_next q taken entry) ∙ map-append (λ (e : EventValue). e.ts) (queue_events q taken) (event_from q entry)
 
 pub closed_next : (q : ℕ) (taken : List CallEntry) (entry : CallEntry) → is_closed q (taken ++ entry ∷ []) ≡ (is_closed q taken || closes q entry)
-closed_next q taken entry = list_any-append (closes q) taken (entry ∷ []) ∙ ap (λ b. is_closed q taken || b) (or_false (closes q entry))
-  where
-    or_false : (b : Bool) → (b || false) ≡ b
-    or_false true = refl
-    or_false false = refl
+closed_next q taken entry = list_any-append (closes q) taken (entry ∷ []) ∙ ap (λ b. is_closed q taken || b) (or-false (closes q entry))
 
 neither : (a b : Bool) → (a || b) ≡ false → a ≡ false
 neither true b h = cc
@@ -79,13 +76,8 @@ data Says (q : ℕ) (entry : CallEntry) : Type 0 where
 says_item : (q k : ℕ) (x : Item) (b : Bool) → (k == q) ≡ b → Says q (Given Stream k x)
 says_item q k x false is = Nothing (ap (λ c. cond c (idle_in x) []) is)
 says_item q k (item.Event e) true is = Awake (ap (λ c. cond c (false ∷ []) []) is)
-says_item q k (item.Side s) true is = Nothing (ap (λ c. cond c [] []) is)
-says_item q k (item.Frame f) true is = Nothing (ap (λ c. cond c [] []) is)
-says_item q k (item.Row r) true is = Nothing (ap (λ c. cond c [] []) is)
-says_item q k (item.Late l) true is = Nothing (ap (λ c. cond c [] []) is)
 says_item q k item.Idle true is = Idles (ap (λ c. cond c (true ∷ []) []) is) (ap (λ j. Given Stream j item.Idle) ((Decides-eqb k q).0 is))
-says_item q k (item.Mark m) true is = Nothing (ap (λ c. cond c [] []) is)
-says_item q k item.Done true is = Nothing (ap (λ c. cond c [] []) is)
+says_item q k x true is = Nothing (ap (λ c. cond c [] []) is)
 
 says : (q : ℕ) (entry : CallEntry) → Says q entry
 says q (Given Stream k x) = says_item q k x (k == q) refl
@@ -294,24 +286,15 @@ marks_go_on n lag grain taken entry given told comes rises bag h =
 -- ---- the order
 
 past_next : (n : ℕ) (lag grain : ℤ) (taken : List CallEntry) (entry : CallEntry) → pos 1 ≤ℤ grain → (x : Item) → IsPast n lag grain taken x → IsPast n lag grain (taken ++ entry ∷ []) x
-past_next n lag grain taken entry step (item.Event e) h = tt
-past_next n lag grain taken entry step (item.Side s) h = tt
-past_next n lag grain taken entry step (item.Frame f) h = tt
-past_next n lag grain taken entry step (item.Row r) h = tt
-past_next n lag grain taken entry step (item.Late l) h = tt
-past_next n lag grain taken entry step item.Idle h = tt
 past_next n lag grain taken entry step (item.Mark w) h = was_before n lag grain taken entry w h
 past_next n lag grain taken entry step item.Done h = h
+past_next n lag grain taken entry step x h = tt
 
 data_past : (n : ℕ) (lag grain : ℤ) (taken : List CallEntry) (x : Item) → IsData x → Each (IsPast n lag grain taken) (unless_idle x)
-data_past n lag grain taken (item.Event e) h = (tt, tt)
-data_past n lag grain taken (item.Side s) h = (tt, tt)
-data_past n lag grain taken (item.Frame f) h = (tt, tt)
-data_past n lag grain taken (item.Row r) h = (tt, tt)
-data_past n lag grain taken (item.Late l) h = (tt, tt)
 data_past n lag grain taken item.Idle h = tt
 data_past n lag grain taken (item.Mark m) h = absurd h
 data_past n lag grain taken item.Done h = absurd h
+data_past n lag grain taken x h = (tt, tt)
 
 passed_past : (n : ℕ) (lag grain : ℤ) (before taken : List CallEntry) (entry : CallEntry) → Comes n before entry → Each (IsPast n lag grain taken) (passed entry)
 passed_past n lag grain before taken (Given Stream queue x) h = data_past n lag grain taken x h.1
@@ -329,13 +312,7 @@ pairs_push R xs x h k = EachPair-append R xs (x ∷ []) h (tt, tt) (Each-more (�
 
 sound_mark : (behind : ℕ → ℕ → Bool) (t : ℤ) (y : Item) → SoundAfter behind y (item.Mark t)
 sound_mark behind t (item.Event e) = tt
-sound_mark behind t (item.Side s) = tt
-sound_mark behind t (item.Frame f) = tt
-sound_mark behind t (item.Row r) = tt
-sound_mark behind t (item.Late l) = tt
-sound_mark behind t item.Idle = tt
-sound_mark behind t (item.Mark w) = tt
-sound_mark behind t item.Done = tt
+sound_mark behind t x = tt
 
 every : (P : Item → Type 0) → ((x : Item) → P x) → (xs : List Item) → Each P xs
 every P p [] = tt
@@ -354,24 +331,13 @@ abbrev Below : (ℕ → ℕ → Bool) → ℕ → ℤ → ℤ → List CallEntry
 Below behind n lag grain taken x = (w : ℤ) → WasLeast n lag grain taken w → SoundBelow behind w x
 
 sound_past : (behind : ℕ → ℕ → Bool) (n : ℕ) (lag grain : ℤ) (taken : List CallEntry) (x : Item) → Below behind n lag grain taken x → (y : Item) → IsPast n lag grain taken y → SoundAfter behind y x
-sound_past behind n lag grain taken x below (item.Event e) h = tt
-sound_past behind n lag grain taken x below (item.Side s) h = tt
-sound_past behind n lag grain taken x below (item.Frame f) h = tt
-sound_past behind n lag grain taken x below (item.Row r) h = tt
-sound_past behind n lag grain taken x below (item.Late l) h = tt
-sound_past behind n lag grain taken x below item.Idle h = tt
 sound_past behind n lag grain taken x below (item.Mark w) h = below w h
 sound_past behind n lag grain taken x below item.Done h = absurd h
+sound_past behind n lag grain taken x below y h = tt
 
 late_not : (behind : ℕ → ℕ → Bool) (x : Item) → IsNotLate x → LateIsBehind behind x
-late_not behind (item.Event e) h = tt
-late_not behind (item.Side s) h = tt
-late_not behind (item.Frame f) h = tt
-late_not behind (item.Row r) h = tt
 late_not behind (item.Late l) h = absurd h
-late_not behind item.Idle h = tt
-late_not behind (item.Mark m) h = tt
-late_not behind item.Done h = tt
+late_not behind x h = tt
 
 pub same_queue : (q : ℕ) → (q == q) ≡ true
 same_queue q = grind arith
@@ -463,24 +429,12 @@ event_below behind n lag grain taken q e step inside going files = λ w was belo
 
 item_below : (behind : ℕ → ℕ → Bool) (n : ℕ) (lag grain : ℤ) (taken : List CallEntry) (q : ℕ) (x : Item) → pos 1 ≤ℤ grain → q < n → is_closed q taken ≡ false → FromFiles n lag grain behind (taken ++ Given Stream q x ∷ []) → Below behind n lag grain taken x
 item_below behind n lag grain taken q (item.Event e) step inside going files = event_below behind n lag grain taken q e step inside going files
-item_below behind n lag grain taken q (item.Side s) step inside going files = λ w h. tt
-item_below behind n lag grain taken q (item.Frame f) step inside going files = λ w h. tt
-item_below behind n lag grain taken q (item.Row r) step inside going files = λ w h. tt
-item_below behind n lag grain taken q (item.Late l) step inside going files = λ w h. tt
-item_below behind n lag grain taken q item.Idle step inside going files = λ w h. tt
-item_below behind n lag grain taken q (item.Mark m) step inside going files = λ w h. tt
-item_below behind n lag grain taken q item.Done step inside going files = λ w h. tt
+item_below behind n lag grain taken q x step inside going files = λ w h. tt
 
 -- an item is kept, or it is an idle note
 kept_or_not : (P : List Item → Type 0) (given : List Item) (x : Item) → P given → P (given ++ x ∷ []) → P (given ++ unless_idle x)
-kept_or_not P given (item.Event e) h k = k
-kept_or_not P given (item.Side s) h k = k
-kept_or_not P given (item.Frame f) h k = k
-kept_or_not P given (item.Row r) h k = k
-kept_or_not P given (item.Late l) h k = k
 kept_or_not P given item.Idle h k = subst P (sym (append-nil given)) h
-kept_or_not P given (item.Mark m) h k = k
-kept_or_not P given item.Done h k = k
+kept_or_not P given x h k = k
 
 sound_passed : (behind : ℕ → ℕ → Bool) (n : ℕ) (lag grain : ℤ) (taken : List CallEntry) (entry : CallEntry) (given : List Item) → pos 1 ≤ℤ grain → Comes n taken entry → Each (IsPast n lag grain taken) given → FromFiles n lag grain behind (taken ++ entry ∷ []) → Sound behind given → Sound behind (given ++ passed entry)
 sound_passed behind n lag grain taken (Given Stream q x) given step comes past files s = kept_or_not (Sound behind) given x s
@@ -494,24 +448,15 @@ sound_passed behind n lag grain taken (QueueClosed port q) given step comes past
 sound_passed behind n lag grain taken Finish given step comes past files s = subst (Sound behind) (sym (append-nil given)) s
 
 above_any : (w : ℤ) (x : Item) → IsData x → IsNoResult x → IsAbove w x
-above_any w (item.Event e) h k = tt
-above_any w (item.Side s) h k = tt
 above_any w (item.Frame f) h k = absurd k
 above_any w (item.Row r) h k = absurd k
-above_any w (item.Late l) h k = tt
-above_any w item.Idle h k = tt
 above_any w (item.Mark m) h k = absurd h
-above_any w item.Done h k = tt
+above_any w x h k = tt
 
 closed_past : (n : ℕ) (lag grain : ℤ) (taken : List CallEntry) (x : Item) → ((w : ℤ) → WasLeast n lag grain taken w → IsAbove w x) → (y : Item) → IsPast n lag grain taken y → ClosedAfter y x
-closed_past n lag grain taken x above (item.Event e) h = tt
-closed_past n lag grain taken x above (item.Side s) h = tt
-closed_past n lag grain taken x above (item.Frame f) h = tt
-closed_past n lag grain taken x above (item.Row r) h = tt
-closed_past n lag grain taken x above (item.Late l) h = tt
-closed_past n lag grain taken x above item.Idle h = tt
 closed_past n lag grain taken x above (item.Mark w) h = above w h
 closed_past n lag grain taken x above item.Done h = absurd h
+closed_past n lag grain taken x above y h = tt
 
 closed_push : (n : ℕ) (lag grain : ℤ) (taken : List CallEntry) (xs : List Item) (x : Item) → Each (IsPast n lag grain taken) xs → ((w : ℤ) → WasLeast n lag grain taken w → IsAbove w x) → ClosedItems xs → ClosedItems (xs ++ x ∷ [])
 closed_push n lag grain taken xs x past above s =

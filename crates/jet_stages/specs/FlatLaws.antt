@@ -25,13 +25,7 @@ flat_keeps legs e = made_keep e (filter (λ leg. passes leg.test e) (map leg_val
 
 pub flat_begins : (legs : List Leg) (next : ℕ) (taken : List CallEntry) (entry : CallEntry) (given : List Item) → FlatStands legs next taken given → FlatAmid legs next taken entry given
 flat_begins legs next taken (Given port queue (item.Event e)) given h = rw (h.0, h.1) refl
-flat_begins legs next taken (Given port queue (item.Side s)) given h = h
-flat_begins legs next taken (Given port queue (item.Frame f)) given h = h
-flat_begins legs next taken (Given port queue (item.Row r)) given h = h
-flat_begins legs next taken (Given port queue (item.Late l)) given h = h
-flat_begins legs next taken (Given port queue item.Idle) given h = h
-flat_begins legs next taken (Given port queue (item.Mark m)) given h = h
-flat_begins legs next taken (Given port queue item.Done) given h = h
+flat_begins legs next taken (Given port queue x) given h = h
 flat_begins legs next taken (MarkTold t) given h = h
 flat_begins legs next taken (QueueClosed port queue) given h = h
 flat_begins legs next taken Finish given h = h

@@ -67,24 +67,12 @@ entry_shadow R fits f keeps (QueueClosed port queue) = Shadows-refl R []
 entry_shadow R fits f keeps Finish = Shadows-refl R []
 
 sound_second : (behind : ℕ → ℕ → Bool) (y : Item) (e d : EventValue) → StandsAt e d → SoundAfter behind y (item.Event e) → SoundAfter behind y (item.Event d)
-sound_second behind (item.Event c) e d at h = tt
-sound_second behind (item.Side s) e d at h = tt
-sound_second behind (item.Frame f) e d at h = tt
-sound_second behind (item.Row r) e d at h = tt
-sound_second behind (item.Late l) e d at h = tt
-sound_second behind item.Idle e d at h = tt
 sound_second behind (item.Mark w) e d at h = λ below. rw (at.part, at.line) (h (subst (λ (t : ℤ). t <ℤ w) at.time below))
-sound_second behind item.Done e d at h = tt
+sound_second behind x e d at h = tt
 
 closed_second : (y : Item) (e d : EventValue) → StandsAt e d → ClosedAfter y (item.Event e) → ClosedAfter y (item.Event d)
-closed_second (item.Event c) e d at h = tt
-closed_second (item.Side s) e d at h = tt
-closed_second (item.Frame f) e d at h = tt
-closed_second (item.Row r) e d at h = tt
-closed_second (item.Late l) e d at h = tt
-closed_second item.Idle e d at h = tt
-closed_second (item.Mark w) e d at h = tt
 closed_second item.Done e d at h = h
+closed_second x e d at h = tt
 
 sound_fits : (behind : ℕ → ℕ → Bool) → Fits (SoundAfter behind)
 sound_fits behind = record { first = λ d y. tt; second = sound_second behind }
@@ -94,35 +82,19 @@ closed_fits = record { first = λ d y. tt; second = closed_second }
 
 item_lates : (behind : ℕ → ℕ → Bool) (f : EventValue → List EventValue) (x : Item) → Each (LateIsBehind behind) (x ∷ []) → Each (LateIsBehind behind) (item_gives f x)
 item_lates behind f (item.Event e) h = all_each (LateIsBehind behind) (λ d. tt) (f e)
-item_lates behind f (item.Side s) h = h
-item_lates behind f (item.Frame g) h = h
-item_lates behind f (item.Row r) h = h
-item_lates behind f (item.Late l) h = h
-item_lates behind f item.Idle h = h
-item_lates behind f (item.Mark m) h = h
-item_lates behind f item.Done h = h
+item_lates behind f x h = h
 
 entry_lates : (behind : ℕ → ℕ → Bool) (f : EventValue → List EventValue) (e : CallEntry) → Each (LateIsBehind behind) (entry_items e) → Each (LateIsBehind behind) (gives f e)
 entry_lates behind f (Given port queue x) h = item_lates behind f x h
-entry_lates behind f (MarkTold m) h = h
-entry_lates behind f (QueueClosed port queue) h = h
-entry_lates behind f Finish h = h
+entry_lates behind f e h = h
 
 item_open : (f : EventValue → List EventValue) (x : Item) → Each NotDone (x ∷ []) → Each NotDone (item_gives f x)
 item_open f (item.Event e) h = all_each NotDone (λ d. tt) (f e)
-item_open f (item.Side s) h = h
-item_open f (item.Frame g) h = h
-item_open f (item.Row r) h = h
-item_open f (item.Late l) h = h
-item_open f item.Idle h = h
-item_open f (item.Mark m) h = h
-item_open f item.Done h = h
+item_open f x h = h
 
 entry_open : (f : EventValue → List EventValue) (e : CallEntry) → Each NotDone (entry_items e) → Each NotDone (gives f e)
 entry_open f (Given port queue x) h = item_open f x h
-entry_open f (MarkTold m) h = h
-entry_open f (QueueClosed port queue) h = h
-entry_open f Finish h = h
+entry_open f e h = h
 
 -- what is given for entries whose items are sound is sound, and likewise for closed, and for without Done
 pub gives_sound : (behind : ℕ → ℕ → Bool) (f : EventValue → List EventValue) → KeepsPlace f → (taken : List CallEntry) → Sound behind (items_of taken) → Sound behind (flat_map (gives f) taken)
@@ -177,51 +149,27 @@ map_marks (d ∷ ds) = map_marks ds
 
 item_events : (f : EventValue → List EventValue) (x : Item) → events_of (item_gives f x) ≡ flat_map f (events_of (x ∷ []))
 item_events f (item.Event e) = map_events (f e) ∙ sym (append-nil (f e))
-item_events f (item.Side s) = refl
-item_events f (item.Frame g) = refl
-item_events f (item.Row r) = refl
-item_events f (item.Late l) = refl
-item_events f item.Idle = refl
-item_events f (item.Mark m) = refl
-item_events f item.Done = refl
+item_events f x = refl
 
 item_others : (f : EventValue → List EventValue) (x : Item) → others_of (item_gives f x) ≡ others_of (x ∷ [])
 item_others f (item.Event e) = map_others (f e)
-item_others f (item.Side s) = refl
-item_others f (item.Frame g) = refl
-item_others f (item.Row r) = refl
-item_others f (item.Late l) = refl
-item_others f item.Idle = refl
-item_others f (item.Mark m) = refl
-item_others f item.Done = refl
+item_others f x = refl
 
 item_marks : (f : EventValue → List EventValue) (x : Item) → marks_of (item_gives f x) ≡ marks_of (x ∷ [])
 item_marks f (item.Event e) = map_marks (f e)
-item_marks f (item.Side s) = refl
-item_marks f (item.Frame g) = refl
-item_marks f (item.Row r) = refl
-item_marks f (item.Late l) = refl
-item_marks f item.Idle = refl
-item_marks f (item.Mark m) = refl
-item_marks f item.Done = refl
+item_marks f x = refl
 
 entry_events : (f : EventValue → List EventValue) (e : CallEntry) → events_of (gives f e) ≡ flat_map f (events_of (entry_items e))
 entry_events f (Given port queue x) = item_events f x
-entry_events f (MarkTold m) = refl
-entry_events f (QueueClosed port queue) = refl
-entry_events f Finish = refl
+entry_events f e = refl
 
 entry_others : (f : EventValue → List EventValue) (e : CallEntry) → others_of (gives f e) ≡ others_of (entry_items e)
 entry_others f (Given port queue x) = item_others f x
-entry_others f (MarkTold m) = refl
-entry_others f (QueueClosed port queue) = refl
-entry_others f Finish = refl
+entry_others f e = refl
 
 entry_marks : (f : EventValue → List EventValue) (e : CallEntry) → marks_of (gives f e) ≡ marks_of (entry_items e)
 entry_marks f (Given port queue x) = item_marks f x
-entry_marks f (MarkTold m) = refl
-entry_marks f (QueueClosed port queue) = refl
-entry_marks f Finish = refl
+entry_marks f e = refl
 
 pub gives_events : (f : EventValue → List EventValue) (taken : List CallEntry) → events_of (flat_map (gives f) taken) ≡ flat_map f (events_of (items_of taken))
 gives_events f [] = refl
@@ -232,21 +180,21 @@ gives_events f (e ∷ taken) =
     ∙ (sym (flat_map-append f (events_of (entry_items e)) (events_of (items_of taken)))
     ∙ ap (flat_map f) (sym (flat_map-append as_event (entry_items e) (items_of taken))))))
 
+-- a kind of which each entry gives what it brought
+gives_kind : {X : Type 0} (pick : Item → List X) (f : EventValue → List EventValue) → ((e : CallEntry) → flat_map pick (gives f e) ≡ flat_map pick (entry_items e)) → (taken : List CallEntry)
+    → flat_map pick (flat_map (gives f) taken) ≡ flat_map pick (items_of taken)
+gives_kind pick f each [] = refl
+gives_kind pick f each (e ∷ taken) =
+    flat_map-append pick (gives f e) (flat_map (gives f) taken)
+    ∙ (ap (λ xs. xs ++ flat_map pick (flat_map (gives f) taken)) (each e)
+    ∙ (ap (λ xs. flat_map pick (entry_items e) ++ xs) (gives_kind pick f each taken)
+    ∙ sym (flat_map-append pick (entry_items e) (items_of taken))))
+
 pub gives_others : (f : EventValue → List EventValue) (taken : List CallEntry) → others_of (flat_map (gives f) taken) ≡ others_of (items_of taken)
-gives_others f [] = refl
-gives_others f (e ∷ taken) =
-    flat_map-append as_other (gives f e) (flat_map (gives f) taken)
-    ∙ (ap (λ xs. xs ++ others_of (flat_map (gives f) taken)) (entry_others f e)
-    ∙ (ap (λ xs. others_of (entry_items e) ++ xs) (gives_others f taken)
-    ∙ sym (flat_map-append as_other (entry_items e) (items_of taken))))
+gives_others f taken = gives_kind as_other f (entry_others f) taken
 
 pub gives_marks : (f : EventValue → List EventValue) (taken : List CallEntry) → marks_of (flat_map (gives f) taken) ≡ marks_of (items_of taken)
-gives_marks f [] = refl
-gives_marks f (e ∷ taken) =
-    flat_map-append as_mark (gives f e) (flat_map (gives f) taken)
-    ∙ (ap (λ ts. ts ++ marks_of (flat_map (gives f) taken)) (entry_marks f e)
-    ∙ (ap (λ ts. marks_of (entry_items e) ++ ts) (gives_marks f taken)
-    ∙ sym (flat_map-append as_mark (entry_items e) (items_of taken))))
+gives_marks f taken = gives_kind as_mark f (entry_marks f) taken
 
 pub stage_bag : (flow : List EventValue → List EventValue) (f : EventValue → List EventValue) → ((es : List EventValue) → flat_map f es ≡ flow es) → (taken : List CallEntry) (given : List Item) → StageStands f taken given → StageBag flow taken given
 stage_bag flow f is taken given h =

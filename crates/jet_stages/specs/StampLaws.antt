@@ -60,14 +60,8 @@ stamp_closed_amid lag grain markers queues None taken entry given h none = h.sta
 stamp_closed_amid lag grain markers queues (Some t) taken entry given h none = Closed-front given (item.Mark t ∷ []) (h.whole.closed none)
 
 past_open : (n : ℕ) (lag grain : ℤ) (taken : List CallEntry) (x : Item) → IsPast n lag grain taken x → NotDone x
-past_open n lag grain taken (item.Event e) h = tt
-past_open n lag grain taken (item.Side s) h = tt
-past_open n lag grain taken (item.Frame f) h = tt
-past_open n lag grain taken (item.Row r) h = tt
-past_open n lag grain taken (item.Late l) h = tt
-past_open n lag grain taken item.Idle h = tt
-past_open n lag grain taken (item.Mark w) h = tt
 past_open n lag grain taken item.Done h = h
+past_open n lag grain taken x h = tt
 
 pub stamped_open : (n : ℕ) (lag grain : ℤ) (taken : List CallEntry) (given : List Item) → Stamped n lag grain taken given → Each NotDone given
 stamped_open n lag grain taken given h = Each-more (IsPast n lag grain taken) NotDone (past_open n lag grain taken) given h.past
@@ -81,35 +75,19 @@ stamp_open_amid lag grain markers queues (Some t) taken entry given h =
 data_events : (xs : List Item) → events_of (data_of xs) ≡ events_of xs
 data_events [] = refl
 data_events (item.Event e ∷ xs) = ap (λ es. e ∷ es) (data_events xs)
-data_events (item.Side s ∷ xs) = data_events xs
-data_events (item.Frame f ∷ xs) = data_events xs
-data_events (item.Row r ∷ xs) = data_events xs
-data_events (item.Late l ∷ xs) = data_events xs
-data_events (item.Idle ∷ xs) = data_events xs
-data_events (item.Mark m ∷ xs) = data_events xs
-data_events (item.Done ∷ xs) = data_events xs
+data_events (x ∷ xs) = data_events xs
 
 data_others : (xs : List Item) → others_of (data_of xs) ≡ others_of xs
 data_others [] = refl
 data_others (item.Event e ∷ xs) = data_others xs
-data_others (item.Side s ∷ xs) = ap (λ ys. item.Side s ∷ ys) (data_others xs)
-data_others (item.Frame f ∷ xs) = ap (λ ys. item.Frame f ∷ ys) (data_others xs)
-data_others (item.Row r ∷ xs) = ap (λ ys. item.Row r ∷ ys) (data_others xs)
-data_others (item.Late l ∷ xs) = ap (λ ys. item.Late l ∷ ys) (data_others xs)
-data_others (item.Idle ∷ xs) = ap (λ ys. item.Idle ∷ ys) (data_others xs)
 data_others (item.Mark m ∷ xs) = data_others xs
 data_others (item.Done ∷ xs) = data_others xs
+data_others (x ∷ xs) = ap (λ ys. x ∷ ys) (data_others xs)
 
 idle_events : (xs : List Item) → events_of (but_idle xs) ≡ events_of xs
 idle_events [] = refl
 idle_events (item.Event e ∷ xs) = ap (λ es. e ∷ es) (idle_events xs)
-idle_events (item.Side s ∷ xs) = idle_events xs
-idle_events (item.Frame f ∷ xs) = idle_events xs
-idle_events (item.Row r ∷ xs) = idle_events xs
-idle_events (item.Late l ∷ xs) = idle_events xs
-idle_events (item.Idle ∷ xs) = idle_events xs
-idle_events (item.Mark m ∷ xs) = idle_events xs
-idle_events (item.Done ∷ xs) = idle_events xs
+idle_events (x ∷ xs) = idle_events xs
 
 -- the bag law kind by kind
 pub bag_events : (taken : List CallEntry) (given : List Item) → StampBag taken given → events_of given ≡ events_of (items_of taken)
@@ -139,14 +117,9 @@ stamp_bag_amid lag grain markers queues None taken entry given h = record { held
 stamp_bag_amid lag grain markers queues (Some t) taken entry given h = record { held = item.Mark t ∷ []; bag = h.whole.bag }
 
 pub data_marks : (x : Item) → IsData x → marks_of (unless_idle x) ≡ []
-data_marks (item.Event e) h = refl
-data_marks (item.Side s) h = refl
-data_marks (item.Frame f) h = refl
-data_marks (item.Row r) h = refl
-data_marks (item.Late l) h = refl
-data_marks item.Idle h = refl
 data_marks (item.Mark m) h = absurd h
 data_marks item.Done h = absurd h
+data_marks x h = refl
 
 owed_marks : (lag grain : ℤ) (markers : List MarkerValue) (queues : View) (t : ℤ) (taken : List CallEntry) (entry : CallEntry) (given : List Item) → (h : Owes lag grain markers queues t taken entry given) → marks_of (passed entry) ≡ []
 owed_marks lag grain markers queues t taken (Given port queue x) given h = data_marks x h.may
