@@ -111,7 +111,7 @@ pub option_none : {X : Type 0} (a b : Option X) → option_or a b ≡ None → a
 option_none None b h = refl
 option_none (Some x) b h = absurd (cc h)
 
-option_second : {X : Type 0} (a b : Option X) → option_or a b ≡ None → b ≡ None
+pub option_second : {X : Type 0} (a b : Option X) → option_or a b ≡ None → b ≡ None
 option_second None b h = h
 option_second (Some x) b h = absurd (cc h)
 
@@ -119,22 +119,22 @@ pub not_not : (b : Bool) → not b ≡ false → b ≡ true
 not_not true h = refl
 not_not false h = absurd (cc h)
 
-second : (a b : Bool) → (a && b) ≡ true → b ≡ true
+pub second : (a b : Bool) → (a && b) ≡ true → b ≡ true
 second true b h = h
 second false b h = absurd (cc h)
 
-to_le : (m n : ℕ) → nat_le m n ≡ true → m ≤ n
+pub to_le : (m n : ℕ) → nat_le m n ≡ true → m ≤ n
 to_le m n h = grind (arith, nat_tests)
 
 within : (least most : ℕ) (z : ℤ) → is_between least most z ≡ true → unsigned_abs z ≤ most
 within least most (pos n) h = to_le n most (second (nat_le least n) (nat_le n most) h)
 within least most (negsuc n) h = absurd (cc h)
 
-first_true : (a b : Bool) → (a && b) ≡ true → a ≡ true
+pub first_true : (a b : Bool) → (a && b) ≡ true → a ≡ true
 first_true true b h = refl
 first_true false b h = absurd (cc h)
 
-inside : (least most : ℕ) (z : ℤ) → is_between least most z ≡ true → (least ≤ unsigned_abs z) × (unsigned_abs z ≤ most)
+pub inside : (least most : ℕ) (z : ℤ) → is_between least most z ≡ true → (least ≤ unsigned_abs z) × (unsigned_abs z ≤ most)
 inside least most (pos n) h = (to_le least n (first_true (nat_le least n) (nat_le n most) h), to_le n most (second (nat_le least n) (nat_le n most) h))
 inside least most (negsuc n) h = absurd (cc h)
 

@@ -4,6 +4,7 @@ pub mod Depths
 pub mod Fitting
 pub mod InductionLaws
 pub mod MeasureLaws
+pub mod Ranges
 pub mod Rounds
 pub mod ShapeLaws
 pub mod Sums

@@ -16,6 +16,7 @@ pub mod Names
 pub mod Paths
 pub mod PlanText
 pub mod Plans
+pub mod Ranges
 pub mod Rings
 pub mod SettingRanges
 pub mod Sizes

@@ -8,6 +8,7 @@ ghost use Rattle.jet_plan.specs.Growth.{is_cyclic, stream_edges, by_kind, longes
 ghost use Rattle.jet_plan.specs.JobShape.{JobShape};
 ghost use Rattle.jet_plan.specs.Names.{has_name, AreKnown};
 ghost use Rattle.jet_plan.specs.Plans.{IsValid};
+ghost use Rattle.jet_plan.specs.Ranges.{IsRanged};
 
 use crate::{Dag, Settings};
 
@@ -15,6 +16,15 @@ use crate::{Dag, Settings};
 pub fn valid_jobs_have_their_shape(dag: &Dag, settings: &Settings)
     requires { IsValid dag.now settings.now }
     ensures { JobShape dag.now settings.now }
+{
+    let _dag = dag;
+    let _settings = settings;
+}
+
+/// A law: a valid job has its settings in their ranges, and 1 to 8 instances of each vertex.
+pub fn valid_jobs_keep_their_ranges(dag: &Dag, settings: &Settings)
+    requires { IsValid dag.now settings.now }
+    ensures { IsRanged dag.now settings.now }
 {
     let _dag = dag;
     let _settings = settings;

@@ -42,7 +42,10 @@ pub use edge::Edge;
 pub use fault::PlanFault;
 pub use kind::Kind;
 pub use large::Large;
-pub use laws::{edges_lead_deeper, measures_keep_the_rules, valid_jobs_have_their_shape};
+pub use laws::{
+    edges_lead_deeper, measures_keep_the_rules, valid_jobs_have_their_shape,
+    valid_jobs_keep_their_ranges,
+};
 pub use leg::LegSpec;
 pub use many::Many;
 pub use mode::ModeSpec;

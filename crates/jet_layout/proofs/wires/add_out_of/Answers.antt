@@ -1,0 +1,7 @@
+use Rattle.std.proofs.Common.{refl}
+use Rattle.jet_layout.proofs.Ranges.{grown_one, map_more}
+use Rattle.jet_layout.proofs.Wiring.{same_wire}
+use Rattle.jet_layout.proofs.wires.add_out_of.Goals as goal
+
+pub loop-consumer-preserved : goal.loop-consumer-preserved
+loop-consumer-preserved c = grown_one _ _ _ _ c.loop-consumer.invariant c.in_ok-push.ensures (same_wire refl c.taker-taker.ensures) (map_more _ c.loop-consumer.consumer)
