@@ -1,8 +1,10 @@
-//! Measures what an event costs in a frame vertex, and a row that is held in order until a mark lets it out.
+//! Measures what an event costs in a frame vertex, what frames and rows cost in a combine vertex, and a row that is held in
+//! order until a mark lets it out.
 //!
-//! It prints how many frames or rows were given, and that each event stands in one frame and the rows came in order. The
-//! words `frames KEYS EVENTS` and `rows HELD ROWS` choose what is driven, and how far; without words all that stands in
-//! the table of bench/README.md is driven once.
+//! It prints how many frames or rows were given, and that each event stands in one frame or in as many rows as there are
+//! slides in a window, and the rows came in order. The words `frames KEYS EVENTS`, `each SLIDES ENDS`, `sixth SLIDES ENDS`
+//! and `rows HELD ROWS` choose what is driven, and how far; without words all that stands in the table of bench/README.md
+//! is driven once.
 #![tactic(auto)]
 
 ghost use Rattle.std.specs.Prelude.{IfSome};
@@ -10,9 +12,9 @@ ghost use Rattle.jet_boxes.specs.Calls.{Call, MayCall};
 ghost use Rattle.jet_window.specs.Driven.{entry_of, IsNoEnd, IsReady};
 
 use jet_boxes::{Outbox, Port, Processor};
-use jet_items::{Acc, Event, Item, Key, Mark, NoMemory, Row};
+use jet_items::{Acc, Event, Frame, Item, Key, Mark, NoMemory, Row};
 use jet_policy::WinPolicy;
-use jet_window::{FrameP, OrderedRows};
+use jet_window::{CombineP, FrameP, OrderedRows};
 use std::alloc::Global;
 use std::env;
 use std::io::{self, ErrorKind};
@@ -22,11 +24,14 @@ use std::io::{self, ErrorKind};
 enum Run {
     /// Events of so many keys through a frame vertex.
     Frames { keys: u32, events: u32 },
+    /// Frames of 100 keys, each of which has one at every so manieth end of a slide, through a combine vertex whose windows
+    /// are so many slides long.
+    Windows { slides: u32, every: u32, ends: u32 },
     /// Rows through ordered rows, of which so many are held.
     Rows { held: u32, rows: u32 },
 }
 
-const ALL: [Run; 4] = [
+const ALL: [Run; 6] = [
     Run::Frames {
         keys: 100,
         events: 100_000,
@@ -34,6 +39,16 @@ const ALL: [Run; 4] = [
     Run::Frames {
         keys: 10_000,
         events: 100_000,
+    },
+    Run::Windows {
+        slides: 6,
+        every: 1,
+        ends: 1_000,
+    },
+    Run::Windows {
+        slides: 600,
+        every: 6,
+        ends: 1_000,
     },
     Run::Rows {
         held: 100,
@@ -70,6 +85,16 @@ fn run_of(words: &[String]) -> Option<Run> {
             keys: size,
             events: count,
         }),
+        "each" => Some(Run::Windows {
+            slides: size,
+            every: 1,
+            ends: count,
+        }),
+        "sixth" => Some(Run::Windows {
+            slides: size,
+            every: 6,
+            ends: count,
+        }),
         "rows" => Some(Run::Rows {
             held: size,
             rows: count,
@@ -87,6 +112,17 @@ fn show(rt: HostRuntime, run: &Run) -> io::Result<()> {
             ),
             None => Err(io::Error::from(ErrorKind::OutOfMemory)),
         },
+        Run::Windows {
+            slides,
+            every,
+            ends,
+        } => match windows_of(rt.alloc(), *slides, *every, *ends) {
+            Some(seen) => println!(rt;
+                "{slides} slides: {} rows of {} events",
+                seen.rows, seen.events
+            ),
+            None => Err(io::Error::from(ErrorKind::OutOfMemory)),
+        },
         Run::Rows { held, rows } => match rows_of(rt.alloc(), *held, *rows) {
             Some(given) => println!(rt; "{held} rows held: {given} given in order"),
             None => Err(io::Error::from(ErrorKind::OutOfMemory)),
@@ -94,19 +130,35 @@ fn show(rt: HostRuntime, run: &Run) -> io::Result<()> {
     }
 }
 
-/// The frames that were given, and the events that they count.
+/// The frames and rows that were given, and the events that they count.
 #[derive(Clone, Copy)]
 struct Seen {
     frames: u64,
+    rows: u64,
     events: u64,
+}
+
+impl Seen {
+    const NONE: Seen = Seen {
+        frames: 0,
+        rows: 0,
+        events: 0,
+    };
 }
 
 // Counts the items of the box, and empties it.
 fn empty(out: &mut Outbox, seen: &mut Seen) {
     while let Some(item) = out.pop() {
-        if let Item::Frame(frame) = item {
-            seen.frames = seen.frames.wrapping_add(1);
-            seen.events = seen.events.wrapping_add(frame.acc.count);
+        match item {
+            Item::Frame(frame) => {
+                seen.frames = seen.frames.wrapping_add(1);
+                seen.events = seen.events.wrapping_add(frame.acc.count);
+            }
+            Item::Row(row) => {
+                seen.rows = seen.rows.wrapping_add(1);
+                seen.events = seen.events.wrapping_add(row.acc.count);
+            }
+            _ => (),
         }
     }
 }
@@ -201,12 +253,57 @@ fn frames_of(alloc: Global, keys: u32, events: u32) -> Option<Seen> {
     let keys = keys_of(alloc, keys)?;
     let mut vertex = FrameP::new(alloc, 1, WinPolicy::new(100_000, 50_000).ok()?);
     let mut out = Outbox::new(alloc, 1024).ok()?;
-    let mut seen = Seen {
-        frames: 0,
-        events: 0,
-    };
+    let mut seen = Seen::NONE;
     for line in 0..events {
         tell_line(&mut vertex, line, key_at(&keys, line)?, &mut out, &mut seen)?;
+    }
+    tell(&mut vertex, &Item::Done, &mut out, &mut seen)?;
+    Some(seen)
+}
+
+fn frame(number: u32, key: Key) -> Item
+    ensures { IsNoEnd result }
+{
+    Item::Frame(Frame {
+        vertex: 1,
+        end: i64::from(number) * 10,
+        key,
+        acc: Acc::one(i64::from(number % 7)),
+    })
+}
+
+// Tells the frames of the end of this number, and the mark there.
+fn tell_end<P: Processor>(
+    processor: &mut P,
+    number: u32,
+    every: u32,
+    keys: &[Key],
+    out: &mut Outbox,
+    seen: &mut Seen,
+) -> Option<()>
+    requires { IsReady P.stands P.takes processor.old }
+    ensures { IfSome result (λ u. IsReady P.stands P.takes processor.new) }
+{
+    let turn = number.checked_rem(every)? as usize;
+    for (place, key) in keys.iter().enumerate() {
+        if place.checked_rem(every as usize)? == turn {
+            tell(processor, &frame(number, *key), out, seen)?;
+        }
+    }
+    let mark = Item::Mark(Mark::new(i64::from(number) * 10)?);
+    tell(processor, &mark, out, seen)?;
+    Some(())
+}
+
+// Drives a combine vertex whose slides are 10 long.
+fn windows_of(alloc: Global, slides: u32, every: u32, ends: u32) -> Option<Seen> {
+    let keys = keys_of(alloc, 100)?;
+    let policy = WinPolicy::new(i64::from(slides) * 10, 10).ok()?;
+    let mut vertex = CombineP::new(alloc, 1, policy);
+    let mut out = Outbox::new(alloc, 1024).ok()?;
+    let mut seen = Seen::NONE;
+    for number in 0..ends {
+        tell_end(&mut vertex, number, every, &keys, &mut out, &mut seen)?;
     }
     tell(&mut vertex, &Item::Done, &mut out, &mut seen)?;
     Some(seen)

@@ -58,12 +58,12 @@ mark_partial p q t before after r rest gave bound room not full = record {
 }
 
 pub mark_whole : (p q z : CombineP) (t u : ℤ) (before middle after : BoxView) → SameRest p q → Gave (combine_of p) before.items (combine_of q) middle.items → (Passes p.passed (later_of p.begun (Some t)) → Passes q.passed (later_of p.begun (Some t))) → middle.room ≡ before.room
-    → Some u ≡ later_of p.begun (Some t) → q.ready.entries ≡ [] → Clear q.policy.size q.policy.slide q.passed q.held.entries u → OpenAbove q.policy.size q.policy.slide u q.held.entries
+    → Some u ≡ later_of p.begun (Some t) → q.ready.items ≡ [] → Clear q.policy.size q.policy.slide q.passed q.held u → OpenAbove q.policy.size q.policy.slide u q.held
     → z.vertex ≡ q.vertex → z.policy ≡ q.policy → z.begun ≡ q.begun → z.start ≡ q.start → z.last ≡ Some t → z.passed ≡ Some u → z.end ≡ q.end → z.held ≡ q.held → z.ready ≡ q.ready
     → after.room ≡ middle.room → after.items ≡ middle.items ++ item.Mark t ∷ []
     → Call Stands Amid Alike false p (MarkTold t) before (Ok true) z after
 mark_whole p q z t u before middle after rest gave bound room up none clear above v o b f l w e h r room' items =
-    let same : record (combine_of q) { passed = Some u } ≡ combine_of z = same_combine _ _ _ _ _ _ _ _ _ _ _ _ _ _ (sym v) (sym (ap (λ x. x.size) o)) (sym (ap (λ x. x.slide) o)) (sym w) (sym e) (sym (ap (λ x. x.entries) h)) (sym (ap (λ x. x.entries) r)) in
+    let same : record (combine_of q) { passed = Some u } ≡ combine_of z = same_combine _ _ _ _ _ _ _ _ _ _ _ _ _ _ (sym v) (sym (ap (λ x. x.size) o)) (sym (ap (λ x. x.slide) o)) (sym w) (sym e) (sym h) (sym (ap (λ x. x.items) r)) in
     let begins : start_of p ≡ start_of z = same_start p z (b ∙ rest.begun) (f ∙ rest.start) in
     record {
       put = gave.put ++ item.Mark t ∷ [];
@@ -83,12 +83,12 @@ mark_whole p q z t u before middle after rest gave bound room up none clear abov
     never : (let yes : Result Bool NoMemory = Ok true in yes ≡ Ok false) → ⊥
     never f = absurd (cc)
 
-finish_outcome : (q : CombineP) (taken : List CallEntry) (given : List Item) (r : Result Bool NoMemory) → (r ≡ Ok true → q.ready.entries ≡ []) → (r ≡ Ok true → q.held.entries ≡ []) → Finishing (start_of q) q.last (combine_of q) taken given → Outcome Stands Amid q taken Finish given r
+finish_outcome : (q : CombineP) (taken : List CallEntry) (given : List Item) (r : Result Bool NoMemory) → (r ≡ Ok true → q.ready.items ≡ []) → (r ≡ Ok true → q.held ≡ []) → Finishing (start_of q) q.last (combine_of q) taken given → Outcome Stands Amid q taken Finish given r
 finish_outcome q taken given (Ok true) none empty k = stands_finish (start_of q) q.last (combine_of q) taken given (none refl) (empty refl) k
 finish_outcome q taken given (Ok false) none empty k = k
 finish_outcome q taken given (Err e) none empty k = k
 
-pub finish_call : (p q : CombineP) (before after : BoxView) (r : Result Bool NoMemory) → SameRest p q → Gave (combine_of p) before.items (combine_of q) after.items → after.room ≡ before.room → (r ≡ Ok true → q.ready.entries ≡ []) → (r ≡ Ok true → q.held.entries ≡ []) → (r ≡ Ok false → length after.items ≡ after.room) → Call Stands Amid Alike false p Finish before r q after
+pub finish_call : (p q : CombineP) (before after : BoxView) (r : Result Bool NoMemory) → SameRest p q → Gave (combine_of p) before.items (combine_of q) after.items → after.room ≡ before.room → (r ≡ Ok true → q.ready.items ≡ []) → (r ≡ Ok true → q.held ≡ []) → (r ≡ Ok false → length after.items ≡ after.room) → Call Stands Amid Alike false p Finish before r q after
 finish_call p q before after r rest gave room none empty full = record {
   put = gave.put;
   settings = (rest.vertex, rest.policy, rest.begun, rest.start);
@@ -108,10 +108,10 @@ grows size held f range h = record {
 }
 
 pub frame_call : (p z : CombineP) (port : Port) (queue : ℕ) (f : FrameValue) (before : BoxView) → IsWithin most_frame_end f.end → InOpenWindow p.policy.size p.policy.slide (is_due p.begun) f.end
-    → SameRest p z → z.passed ≡ p.passed → z.end ≡ p.end → z.ready ≡ p.ready → z.held.entries ≡ joined_in p.held.entries (f.end, f.key) f.acc → Call Stands Amid Alike false p (Given port queue (item.Frame f)) before (Ok true) z before
+    → SameRest p z → z.passed ≡ p.passed → z.end ≡ p.end → z.ready ≡ p.ready → z.held ≡ joined_in p.held (f.end, f.key) f.acc → Call Stands Amid Alike false p (Given port queue (item.Frame f)) before (Ok true) z before
 frame_call p z port queue f before range in_window rest w e r h =
-    let new : Table = joined_in p.held.entries (f.end, f.key) f.acc in
-    let same : record (combine_of p) { held = new } ≡ combine_of z = same_combine _ _ _ _ _ _ _ _ _ _ _ _ _ _ (sym rest.vertex) (sym (ap (λ x. x.size) rest.policy)) (sym (ap (λ x. x.slide) rest.policy)) (sym w) (sym e) (sym h) (sym (ap (λ x. x.entries) r)) in
+    let new : Table = joined_in p.held (f.end, f.key) f.acc in
+    let same : record (combine_of p) { held = new } ≡ combine_of z = same_combine _ _ _ _ _ _ _ _ _ _ _ _ _ _ (sym rest.vertex) (sym (ap (λ x. x.size) rest.policy)) (sym (ap (λ x. x.slide) rest.policy)) (sym w) (sym e) (sym h) (sym (ap (λ x. x.items) r)) in
     record {
       put = [];
       settings = (rest.vertex, rest.policy, rest.begun, rest.start);
@@ -122,9 +122,9 @@ frame_call p z port queue f before range in_window rest w e r h =
       keeps = λ taken given k. at_rest p z rest (λ s last. CombineStands s last (combine_of z) (taken ++ Given port queue (item.Frame f) ∷ []) (given ++ []))
           (subst (λ (x : Combine). CombineStands (start_of p) p.last x (taken ++ Given port queue (item.Frame f) ∷ []) (given ++ [])) same
           (stands_frame (start_of p) p.last (combine_of p) taken given port queue f new
-          (λ d key kept m b. total-joined_in (λ z. bytes_eq z.1 key && covers p.policy.size d z.0) (f.end, f.key) f.acc p.held.entries kept.ordered)
-          (grows p.policy.size p.held.entries f range)
-          (λ due above old. each_insert place_cmp place_total place_equal (λ (z : Place). InOpenWindow p.policy.size p.policy.slide due z.0) (f.end, f.key) _ p.held.entries old
+          (λ d key kept m b. total-joined_in (λ z. bytes_eq z.1 key && covers p.policy.size d z.0) (f.end, f.key) f.acc p.held kept.ordered)
+          (grows p.policy.size p.held f range)
+          (λ due above old. each_insert place_cmp place_total place_equal (λ (z : Place). InOpenWindow p.policy.size p.policy.slide due z.0) (f.end, f.key) _ p.held old
           (in_window.0, in_window.1, in_window.2, above in_window.0 in_window.3 ((Decides-covers p.policy.size in_window.0 f.end).0 in_window.2).1)) k));
     }
   where
@@ -140,8 +140,8 @@ over_call p port queue f before over = record {
   puts = sym (append-nil before.items);
   full = λ g. absurd (never g);
   wants = tt;
-  keeps = λ taken given k. stands_frame (start_of p) p.last (combine_of p) taken given port queue f p.held.entries
-      (λ d key kept m b. ap (λ (o : Option AccValue). both o (total (held_in p.policy.size d key) p.held.entries)) (sym (share_none (bytes_eq f.key key) (covers p.policy.size d f.end) f.acc (over d m b))))
+  keeps = λ taken given k. stands_frame (start_of p) p.last (combine_of p) taken given port queue f p.held
+      (λ d key kept m b. ap (λ (o : Option AccValue). both o (total (held_in p.policy.size d key) p.held)) (sym (share_none (bytes_eq f.key key) (covers p.policy.size d f.end) f.acc (over d m b))))
       (λ kept. kept) (λ due above old. old) k;
 }
   where
@@ -195,9 +195,9 @@ close_call p port queue before = record {
     never g = absurd (cc)
 
 -- nothing was put: there was no room, or memory was wanted
-pub nothing_call : (p z : CombineP) (port : Port) (queue : ℕ) (x : Item) (before : BoxView) (r : Result Bool NoMemory) → (r ≡ Ok true → ⊥) → (r ≡ Ok false → length before.items ≡ before.room) → SameRest p z → z.passed ≡ p.passed → z.end ≡ p.end → z.held.entries ≡ p.held.entries → z.ready ≡ p.ready → Call Stands Amid Alike false p (Given port queue x) before r z before
+pub nothing_call : (p z : CombineP) (port : Port) (queue : ℕ) (x : Item) (before : BoxView) (r : Result Bool NoMemory) → (r ≡ Ok true → ⊥) → (r ≡ Ok false → length before.items ≡ before.room) → SameRest p z → z.passed ≡ p.passed → z.end ≡ p.end → z.held ≡ p.held → z.ready ≡ p.ready → Call Stands Amid Alike false p (Given port queue x) before r z before
 nothing_call p z port queue x before r not full rest w e h ready =
-    let same : combine_of p ≡ combine_of z = same_combine _ _ _ _ _ _ _ _ _ _ _ _ _ _ (sym rest.vertex) (sym (ap (λ x. x.size) rest.policy)) (sym (ap (λ x. x.slide) rest.policy)) (sym w) (sym e) (sym h) (sym (ap (λ x. x.entries) ready)) in
+    let same : combine_of p ≡ combine_of z = same_combine _ _ _ _ _ _ _ _ _ _ _ _ _ _ (sym rest.vertex) (sym (ap (λ x. x.size) rest.policy)) (sym (ap (λ x. x.slide) rest.policy)) (sym w) (sym e) (sym h) (sym (ap (λ x. x.items) ready)) in
     record {
       put = [];
       settings = (rest.vertex, rest.policy, rest.begun, rest.start);

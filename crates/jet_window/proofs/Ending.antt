@@ -1,6 +1,7 @@
 -- Window ends above a time.
-use Rattle.std.proofs.Common.{◌≡◌, ℕ, Bool, true, false, cond, ℤ, pos, ◌+ℤ◌, ◌-ℤ◌, ◌<ℤ◌, ◌≤ℤ◌, List, [], ◌∷◌, ◌++◌, append_assoc, Option, Some, None, refl, sym, ◌∙◌, ap, subst, arith, ◌&&◌}
+use Rattle.std.proofs.Common.{◌≡◌, ℕ, Bool, true, false, cond, ℤ, pos, ◌+ℤ◌, ◌-ℤ◌, ◌<ℤ◌, ◌≤ℤ◌, List, [], ◌∷◌, ◌++◌, drop, append_assoc, Option, Some, None, refl, sym, ◌∙◌, ap, subst, arith, ◌&&◌}
 use Rattle.std.specs.Prelude.{int_le, int_lt, bytes_eq, slice_get, length, ◌<◌, IsSome, IfSome}
+use Rattle.std.specs.Option.{option_map}
 use Rattle.std.specs.declared.cmp.Ordering.{Ordering}
 use Rattle.std.specs.declared.cmp.Ordering.TheVariants.{Less, Equal, Greater}
 use Rattle.std.specs.Cmp.Lexicographic.{slice_cmp}
@@ -244,3 +245,39 @@ popped (g ∷ gs) new None f h v k = absurd (not_true (v (omega arith)))
     not_true : false ≡ true → ⊥
     not_true e = absurd (cc)
 popped (g ∷ gs) new (Some p) f h v k = cc
+
+-- ---- by the end of the first frame
+first_of : (held : Table) (end : ℤ) → option_map (λ (f : Place × AccValue). f.0.0) (slice_get held 0) ≡ Some end → (f : Place × AccValue) × (slice_get held 0 ≡ Some f) × (f.0.0 ≡ end)
+first_of [] end h = absurd (cc)
+first_of (f ∷ fs) end h = (f, refl, cc)
+
+pub first_within : (held : Table) (end : ℤ) → option_map (λ (f : Place × AccValue). f.0.0) (slice_get held 0) ≡ Some end → IsKept held → IsWithin most_frame_end end
+first_within held end is kept =
+    let f = first_of held end is in
+    subst (IsWithin most_frame_end) f.2 (first_each (λ (g : Place × AccValue). IsWithin most_frame_end g.0.0) held f.0 f.1 kept.ranges)
+
+pub next_end_at : (size slide : ℤ) (passed : Option ℤ) (held : Table) (end e : ℤ) → option_map (λ (f : Place × AccValue). f.0.0) (slice_get held 0) ≡ Some end → IsKept held → IsEndAbove slide passed end e → e <ℤ (end +ℤ size) → IsPolicy size slide → IsNextEnd size slide passed held e
+next_end_at size slide passed held end e is kept up lt grid =
+    let f = first_of held end is in
+    next_end_is size slide passed held f.0 e f.1 kept (subst (λ (z : ℤ). IsEndAbove slide passed z e) (sym f.2) up) (subst (λ (z : ℤ). e <ℤ (z +ℤ size)) (sym f.2) lt) grid
+
+pub forget_at : (size slide : ℤ) (passed : Option ℤ) (held new : Table) (end e : ℤ) → option_map (λ (f : Place × AccValue). f.0.0) (slice_get held 0) ≡ Some end → new ≡ drop 1 held → IsEndAbove slide passed end e → (end +ℤ size) ≤ℤ e → Forgets size slide passed held new
+forget_at size slide passed [] new end e is less up le = absurd (cc)
+forget_at size slide passed (f ∷ fs) new end e is less up le =
+    let at : f.0.0 ≡ end = cc in
+    subst (Forgets size slide passed (f ∷ fs)) (sym less) (forget_first size slide passed f fs e (subst (λ (z : ℤ). IsEndAbove slide passed z e) (sym at) up) (subst (λ (z : ℤ). (z +ℤ size) ≤ℤ e) (sym at) le))
+
+pub fewer_left : (held new : Table) (end : ℤ) → option_map (λ (f : Place × AccValue). f.0.0) (slice_get held 0) ≡ Some end → new ≡ drop 1 held → length new < length held
+fewer_left [] new end is less = absurd (cc)
+fewer_left (f ∷ fs) new end is less = rw less (omega arith)
+
+pub nothing_first : (held : Table) → option_map (λ (f : Place × AccValue). f.0.0) (slice_get held 0) ≡ None → held ≡ []
+nothing_first [] is = refl
+nothing_first (f ∷ fs) is = absurd (cc)
+
+-- each frame lies within the window that is next
+pub reaches_low : (size slide e : ℤ) (held : Table) → HeldUntil size slide e held → Each (λ (f : Place × AccValue). (e -ℤ size) <ℤ f.0.0) held
+reaches_low size slide e held h = Each-more (λ (f : Place × AccValue). InOpenWindow size slide (λ d. int_lt d e) f.0.0) (λ (f : Place × AccValue). (e -ℤ size) <ℤ f.0.0) (λ f w. low w.0 f.0.0 ((Decides-covers size w.0 f.0.0).0 w.2).0 w.3) held h
+  where
+    low : (d end : ℤ) → (d -ℤ size) <ℤ end → int_lt d e ≡ false → (e -ℤ size) <ℤ end
+    low d end lt before = by_lt_z d e (λ k. absurd (not_so (int_lt d e) (Decides-int_lt d e) before k)) (λ k. omega (arith, ints))

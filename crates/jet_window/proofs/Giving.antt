@@ -2,7 +2,6 @@
 use Rattle.std.proofs.Common.{◌≡◌, ℕ, ◌<◌, Bool, true, false, ◌||◌, ℤ, ◌<ℤ◌, ◌≤ℤ◌, List, [], ◌∷◌, ◌++◌, ◌∙◌, Result, Ok, Err, Option, Some, None, refl, sym, ap, subst, arith}
 use Rattle.std.specs.Prelude.{int_le, int_lt, OnErr}
 use Rattle.std.proofs.lemmas.Int.{ints, by_lt_z}
-use Rattle.std.specs.BTreeMap.{BTreeMap}
 use Rattle.jet_items.specs.Values.{AccValue, FrameValue}
 use Rattle.jet_items.specs.Totals.{total}
 use Rattle.jet_items.proofs.Orders.{Each-more}
@@ -27,23 +26,23 @@ pub same_combine : (v1 v2 : ℕ) (s1 s2 d1 d2 : ℤ) (o1 o2 : Option ℤ) (e1 e2
     → let p : Combine = record { vertex = v1; size = s1; slide = d1; passed = o1; end = e1; held = h1; ready = r1 } in p ≡ record { vertex = v2; size = s2; slide = d2; passed = o2; end = e2; held = h2; ready = r2 }
 same_combine v1 v2 s1 s2 d1 d2 o1 o2 e1 e2 h1 h2 r1 r2 a b c d e f g = cc
 
-pub put_step : (p q : CombineP) (before after : List Item) → SameRest p q → q.passed ≡ p.passed → q.end ≡ p.end → q.held ≡ p.held → PutsReady p.vertex p.end p.ready.entries before q.ready.entries after → Gave (combine_of p) before (combine_of q) after
+pub put_step : (p q : CombineP) (before after : List Item) → SameRest p q → q.passed ≡ p.passed → q.end ≡ p.end → q.held ≡ p.held → PutsReady p.vertex p.end p.ready.items before q.ready.items after → Gave (combine_of p) before (combine_of q) after
 put_step p q before after s t e h puts =
     subst (λ (z : Combine). Gave (combine_of p) before z after)
-    (same_combine _ _ _ _ _ _ _ _ _ _ _ _ _ _ (sym s.vertex) (sym (ap (λ x. x.size) s.policy)) (sym (ap (λ x. x.slide) s.policy)) (sym t) (sym e) (sym (ap (λ x. x.entries) h)) refl)
-    (Gave-put (combine_of p) before q.ready.entries after puts)
+    (same_combine _ _ _ _ _ _ _ _ _ _ _ _ _ _ (sym s.vertex) (sym (ap (λ x. x.size) s.policy)) (sym (ap (λ x. x.slide) s.policy)) (sym t) (sym e) (sym h) refl)
+    (Gave-put (combine_of p) before q.ready.items after puts)
 
-pub forget_step : (p q : CombineP) (xs : List Item) → SameRest p q → q.passed ≡ p.passed → q.end ≡ p.end → q.ready ≡ p.ready → Forgets p.policy.size p.policy.slide p.passed p.held.entries q.held.entries → Gave (combine_of p) xs (combine_of q) xs
+pub forget_step : (p q : CombineP) (xs : List Item) → SameRest p q → q.passed ≡ p.passed → q.end ≡ p.end → q.ready ≡ p.ready → Forgets p.policy.size p.policy.slide p.passed p.held q.held → Gave (combine_of p) xs (combine_of q) xs
 forget_step p q xs s t e r f =
     subst (λ (z : Combine). Gave (combine_of p) xs z xs)
-    (same_combine _ _ _ _ _ _ _ _ _ _ _ _ _ _ (sym s.vertex) (sym (ap (λ x. x.size) s.policy)) (sym (ap (λ x. x.slide) s.policy)) (sym t) (sym e) refl (sym (ap (λ x. x.entries) r)))
-    (Gave-forget (combine_of p) xs q.held.entries f)
+    (same_combine _ _ _ _ _ _ _ _ _ _ _ _ _ _ (sym s.vertex) (sym (ap (λ x. x.size) s.policy)) (sym (ap (λ x. x.slide) s.policy)) (sym t) (sym e) refl (sym (ap (λ x. x.items) r)))
+    (Gave-forget (combine_of p) xs q.held f)
 
-pub up_step : (p q : CombineP) (xs : List Item) (e : ℤ) → SameRest p q → q.held ≡ p.held → q.passed ≡ Some e → q.end ≡ e → p.ready.entries ≡ [] → IsNextEnd p.policy.size p.policy.slide p.passed p.held.entries e → WindowOf p.policy.size e p.held.entries q.ready.entries → Gave (combine_of p) xs (combine_of q) xs
+pub up_step : (p q : CombineP) (xs : List Item) (e : ℤ) → SameRest p q → q.held ≡ p.held → q.passed ≡ Some e → q.end ≡ e → p.ready.items ≡ [] → IsNextEnd p.policy.size p.policy.slide p.passed p.held e → WindowOf p.policy.size e p.held q.ready.items → Gave (combine_of p) xs (combine_of q) xs
 up_step p q xs e s h t n none next rows =
     subst (λ (z : Combine). Gave (combine_of p) xs z xs)
-    (same_combine _ _ _ _ _ _ _ _ _ _ _ _ _ _ (sym s.vertex) (sym (ap (λ x. x.size) s.policy)) (sym (ap (λ x. x.slide) s.policy)) (sym t) (sym n) (sym (ap (λ x. x.entries) h)) refl)
-    (Gave-up (combine_of p) xs e q.ready.entries none next.range (λ kept. takes_up p.policy.size p.policy.slide p.passed p.held.entries e q.ready.entries next rows kept))
+    (same_combine _ _ _ _ _ _ _ _ _ _ _ _ _ _ (sym s.vertex) (sym (ap (λ x. x.size) s.policy)) (sym (ap (λ x. x.slide) s.policy)) (sym t) (sym n) (sym h) refl)
+    (Gave-up (combine_of p) xs e q.ready.items none next.range (λ kept. takes_up p.policy.size p.policy.slide p.passed p.held e q.ready.items next rows kept))
 
 -- no window up to t is left
 pub skips_clear : (size slide : ℤ) (passed : Option ℤ) (held : Table) (e t : ℤ) → IsNextEnd size slide passed held e → t <ℤ e → Clear size slide passed held t
@@ -61,13 +60,13 @@ open_next size slide e t held h lt =
 pub Clear-forget : (size slide : ℤ) (passed : Option ℤ) (held rest : Table) (t : ℤ) → Forgets size slide passed held rest → Clear size slide passed held t → Clear size slide passed rest t
 Clear-forget size slide passed held rest t f c = record { none = λ d key m n le. f.leaves d key m n ∙ c.none d key m n le }
 
-pub clear_next : (l q r : CombineP) (t : ℤ) → q.policy ≡ l.policy → q.passed ≡ l.passed → q.held ≡ l.held → r.policy ≡ q.policy → r.passed ≡ q.passed → Forgets q.policy.size q.policy.slide q.passed q.held.entries r.held.entries
-    → Clear l.policy.size l.policy.slide l.passed l.held.entries t → Clear r.policy.size r.policy.slide r.passed r.held.entries t
+pub clear_next : (l q r : CombineP) (t : ℤ) → q.policy ≡ l.policy → q.passed ≡ l.passed → q.held ≡ l.held → r.policy ≡ q.policy → r.passed ≡ q.passed → Forgets q.policy.size q.policy.slide q.passed q.held r.held
+    → Clear l.policy.size l.policy.slide l.passed l.held t → Clear r.policy.size r.policy.slide r.passed r.held t
 clear_next l q r t o p h o' p' f c =
-    let here : Clear q.policy.size q.policy.slide q.passed q.held.entries t = rw (o, p, h) c in
-    rw (o', p') (Clear-forget q.policy.size q.policy.slide q.passed q.held.entries r.held.entries t f here)
+    let here : Clear q.policy.size q.policy.slide q.passed q.held t = rw (o, p, h) c in
+    rw (o', p') (Clear-forget q.policy.size q.policy.slide q.passed q.held r.held t f here)
 
-pub clear_up : (r u : CombineP) (e t : ℤ) → u.policy ≡ r.policy → u.held ≡ r.held → u.passed ≡ Some e → is_due r.passed e ≡ false → Clear r.policy.size r.policy.slide r.passed r.held.entries t → Clear u.policy.size u.policy.slide u.passed u.held.entries t
+pub clear_up : (r u : CombineP) (e t : ℤ) → u.policy ≡ r.policy → u.held ≡ r.held → u.passed ≡ Some e → is_due r.passed e ≡ false → Clear r.policy.size r.policy.slide r.passed r.held t → Clear u.policy.size u.policy.slide u.passed u.held t
 clear_up r u e t o h p later c = rw (o, h, p) (record { none = λ d key m n le. c.none d key m (not_due_above r.passed e d later (after d n)) le })
   where
     after : (d : ℤ) → int_le d e ≡ false → e ≤ℤ d
@@ -115,19 +114,19 @@ nearer size slide (Some p) held e next =
 -- ---- from the beginning of a call on
 -- rows that were ready are put
 pub gave_put : (p l q : CombineP) (before middle after : List Item) → Gave (combine_of p) before (combine_of l) middle
-    → SameRest l q → q.passed ≡ l.passed → q.end ≡ l.end → q.held ≡ l.held → PutsReady l.vertex l.end l.ready.entries middle q.ready.entries after → Gave (combine_of p) before (combine_of q) after
+    → SameRest l q → q.passed ≡ l.passed → q.end ≡ l.end → q.held ≡ l.held → PutsReady l.vertex l.end l.ready.items middle q.ready.items after → Gave (combine_of p) before (combine_of q) after
 gave_put p l q before middle after g s t e h puts = Gave-trans (combine_of p) before (combine_of l) middle (combine_of q) after g (put_step l q middle after s t e h puts)
 
 -- and frames of closed windows are forgotten
 pub gave_next : (p q r : CombineP) (before after : List Item) → Gave (combine_of p) before (combine_of q) after
-    → SameRest q r → r.passed ≡ q.passed → r.end ≡ q.end → r.ready ≡ q.ready → Forgets q.policy.size q.policy.slide q.passed q.held.entries r.held.entries → Gave (combine_of p) before (combine_of r) after
+    → SameRest q r → r.passed ≡ q.passed → r.end ≡ q.end → r.ready ≡ q.ready → Forgets q.policy.size q.policy.slide q.passed q.held r.held → Gave (combine_of p) before (combine_of r) after
 gave_next p q r before after g s t e y f = Gave-trans (combine_of p) before (combine_of q) after (combine_of r) after g (forget_step q r after s t e y f)
 
 -- ---- what stays the same
 pub rest_refl : (p : CombineP) → SameRest p p
 rest_refl p = record { vertex = refl; policy = refl; begun = refl; start = refl; last = refl }
 
-pub rest_held : (p : CombineP) (held : BTreeMap (ℤ × List ℕ) AccValue) → SameRest p (record p { held = held })
+pub rest_held : (p : CombineP) (held : Table) → SameRest p (record p { held = held })
 rest_held p held = record { vertex = refl; policy = refl; begun = refl; start = refl; last = refl }
 
 pub rest_trans : (p q r : CombineP) → SameRest p q → SameRest q r → SameRest p r

@@ -14,6 +14,7 @@ pub mod Moving
 pub mod Opening
 pub mod Placing
 pub mod Promising
+pub mod Reaching
 pub mod Reading
 pub mod Sliding
 pub mod Staging

@@ -25,7 +25,7 @@ use Rattle.jet_window.proofs.Tabling.{total-insert, order_insert}
 pub key_equal : (x y : List ℕ) → slice_cmp nat_cmp x y ≡ Equal → x ≡ y
 key_equal x y h = (bytes_eq-Decides x y).0 (sym (is_eq-slice_cmp x y) ∙ ap is_eq h)
 
-not_less : (x y : List ℕ) → slice_cmp nat_cmp x y ≡ Less → x ≡ y → ⊥
+pub not_less : (x y : List ℕ) → slice_cmp nat_cmp x y ≡ Less → x ≡ y → ⊥
 not_less x y h e = absurd_less (sym (tied_itself nat_list_cmp_total y) ∙ subst (λ (z : List ℕ). slice_cmp nat_cmp z y ≡ Less) e h)
   where
     absurd_less : Equal ≡ Less → ⊥
@@ -60,7 +60,7 @@ takes_up size slide passed held e ready next rows kept = record {
 pub window_none : (size e : ℤ) → WindowOf size e [] []
 window_none size e = record { each = λ key. refl; rising = tt }
 
-both_true : (b c : Bool) (a : AccValue) → c ≡ true → only b a ≡ only (b && c) a
+pub both_true : (b c : Bool) (a : AccValue) → c ≡ true → only b a ≡ only (b && c) a
 both_true true true a h = refl
 both_true true false a h = absurd (cc)
 both_true false c a h = refl

@@ -1,13 +1,13 @@
 // The second stage of a sliding window: rows of windows from frames. This is the combine vertex of the two-stage
 // aggregation in Hazelcast Jet's paper.
-ghost use Rattle.std.specs.Prelude.{◌≡◌, ℕ, ℤ, Bool, true, false, length, List, [], ◌∷◌, ◌++◌, IfOk, OnOk, OnErr, IfSome, IfNone, Some, None, Ok};
+ghost use Rattle.std.specs.Prelude.{◌≡◌, ℕ, ℤ, ◌<ℤ◌, ◌-ℤ◌, Bool, true, false, length, List, [], ◌∷◌, ◌++◌, IfOk, OnOk, OnErr, IfSome, IfNone, Some, None, Ok};
 ghost use Rattle.std.proofs.Common.{◌∙◌, refl};
 ghost use Rattle.jet_items.specs.Kinds.{marks_of};
-ghost use Rattle.jet_items.specs.Order.{Sound, Closed as ClosedItems};
+ghost use Rattle.jet_items.specs.Order.{Each, Sound, Closed as ClosedItems};
 ghost use Rattle.jet_items.specs.Ranges.{IsWithin, most_frame_end, most_row_end};
 ghost use Rattle.jet_items.specs.declared.item.Item.{Item};
 ghost use Rattle.jet_boxes.specs.Entry.{CallEntry, Given, MarkTold, QueueClosed, Finish, items_of};
-ghost use Rattle.jet_window.specs.CombineCalls.{Stands, Amid, Alike, CombineCall, CombineMayCall, StandsStill};
+ghost use Rattle.jet_window.specs.CombineCalls.{Stands, Amid, Alike, CombineCall, CombineMayCall};
 ghost use Rattle.jet_window.specs.CombineStands.{CombineBag, CombineBagAmid, IsFrame, Gave, PutsReady};
 ghost use Rattle.jet_window.specs.CombineView.{combine_of, start_of, held_frames, SameRest};
 ghost use Rattle.jet_window.specs.Combining.{Forgets, Clear, OpenAbove, Passes, IsOver, MayBegin, TableOf};
@@ -17,12 +17,13 @@ ghost use Rattle.jet_window.specs.inner.NextEnds.{IsNextEnd};
 ghost use Rattle.jet_window.specs.Taken.{is_due, due_after, InOpenWindow, StageInput};
 ghost use Rattle.jet_window.specs.inner.WindowOf.{WindowOf};
 
-use crate::held::{end_above, keep, window_rows};
+use crate::held::end_above;
+use crate::held_frames::HeldFrames;
 use jet_boxes::{Outbox, Port, Processor};
 use jet_items::{Acc, Frame, Item, Key, Mark, NoMemory, Row};
 use jet_policy::WinPolicy;
 use std::alloc::Global;
-use std::collections::BTreeMap;
+use std::collections::VecDeque;
 
 /// Joins the frames of each window and key to a row, once a mark closes the window: what a job's combine vertex does.
 ///
@@ -44,8 +45,8 @@ pub struct CombineP {
     last: Option<Mark>,
     passed: Option<Mark>,
     end: i64,
-    held: BTreeMap<(i64, Key), Acc>,
-    ready: BTreeMap<Key, Acc>,
+    held: HeldFrames,
+    ready: VecDeque<(Key, Acc)>,
 }
 
 // The later of a mark and the one that a vertex began with.
@@ -59,12 +60,12 @@ fn later(begun: Option<Mark>, mark: Mark) -> Mark
 }
 
 // The frames by end and key, joined where several have the same.
-fn table_of(alloc: Global, frames: &[Frame]) -> Result<BTreeMap<(i64, Key), Acc>, NoMemory>
-    ensures { IfOk result (λ held. TableOf frames.now held.entries) }
+fn table_of(alloc: Global, frames: &[Frame]) -> Result<HeldFrames, NoMemory>
+    ensures { IfOk result (λ held. TableOf frames.now held) }
 {
-    let mut held = BTreeMap::new(alloc);
+    let mut held = HeldFrames::new(alloc);
     for frame in frames {
-        keep(&mut held, frame.end, frame.key, &frame.acc)?;
+        held.keep(frame.end, &frame.key, &frame.acc)?;
     }
     Ok(held)
 }
@@ -87,8 +88,8 @@ impl CombineP {
             last: None,
             passed: None,
             end: 0,
-            held: BTreeMap::new(alloc),
-            ready: BTreeMap::new(alloc),
+            held: HeldFrames::new(alloc),
+            ready: VecDeque::new(alloc),
         }
     }
 
@@ -121,7 +122,7 @@ impl CombineP {
             passed,
             end: 0,
             held,
-            ready: BTreeMap::new(alloc),
+            ready: VecDeque::new(alloc),
         })
     }
 
@@ -134,20 +135,9 @@ impl CombineP {
 
     /// The frames that it holds, by end, then key: one for each end and key, and none whose last window has closed.
     pub fn frames(&self) -> Result<Vec<Frame>, NoMemory>
-        requires { StandsStill self.now }
         ensures { IfOk result (λ v. v.items ≡ held_frames self.now) }
     {
-        let mut frames = Vec::new(self.alloc);
-        for (at, acc) in self.held.iter() {
-            let frame = Frame {
-                vertex: self.vertex,
-                end: at.0,
-                key: at.1,
-                acc: *acc,
-            };
-            frames.push(frame)?;
-        }
-        Ok(frames)
+        self.held.list(self.vertex)
     }
 
     // Whether a frame that ends here lies in a window above the mark that the vertex began with.
@@ -165,39 +155,38 @@ impl CombineP {
 
     // The end of the first window that is open and has a frame. Frames whose windows have all passed are forgotten.
     fn next_end(&mut self) -> Option<i64>
-        requires { IsKept self.old.held.entries }
+        requires { IsKept self.old.held }
         ensures rest { SameRest self.old self.new }
         ensures passed { self.new.passed ≡ self.old.passed }
         ensures end { self.new.end ≡ self.old.end }
         ensures alloc { self.new.alloc ≡ self.old.alloc }
         ensures ready { self.new.ready ≡ self.old.ready }
-        ensures forgets { Forgets self.old.policy.size self.old.policy.slide self.old.passed self.old.held.entries self.new.held.entries }
-        ensures some { IfSome result (λ e. IsNextEnd self.old.policy.size self.old.policy.slide self.old.passed self.new.held.entries e) }
-        ensures none { IfNone result (self.new.held.entries ≡ []) }
+        ensures forgets { Forgets self.old.policy.size self.old.policy.slide self.old.passed self.old.held self.new.held }
+        ensures some { IfSome result (λ e. IsNextEnd self.old.policy.size self.old.policy.slide self.old.passed self.new.held e) }
+        ensures none { IfNone result (self.new.held ≡ []) }
     {
-        while let Some((at, _)) = self.held.first_key_value() {
-            let end = at.0;
+        while let Some(end) = self.held.first_end() {
             let next = end_above(&self.policy, self.passed, end);
             if next < end + self.policy.size() {
                 return Some(next);
             }
-            let _ = self.held.pop_first();
+            self.held.forget_first();
         }
         None
     }
 
     // Takes up the next window: its rows are ready.
     fn take_up(&mut self, end: i64) -> Result<(), NoMemory>
-        requires { IsWithin most_row_end end }
+        requires range { IsWithin most_row_end end }
+        requires reaches { Each (λ f. (end -ℤ self.old.policy.size) <ℤ f.0.0) self.old.held }
         ensures rest { SameRest self.old self.new }
         ensures held { self.new.held ≡ self.old.held }
         ensures passed { OnOk result (self.new.passed ≡ Some end) }
         ensures end { OnOk result (self.new.end ≡ end) }
-        ensures rows { OnOk result (WindowOf self.old.policy.size end self.old.held.entries self.new.ready.entries) }
+        ensures rows { OnOk result (WindowOf self.old.policy.size end self.old.held self.new.ready.items) }
         ensures same { OnErr result (self.new ≡ self.old) }
     {
-        let rows = window_rows(self.alloc, &self.held, self.policy.size(), end)?;
-        self.ready = rows;
+        self.ready = self.held.window(end)?;
         self.end = end;
         self.passed = Some(Mark { t: end });
         Ok(())
@@ -211,11 +200,11 @@ impl CombineP {
         ensures end { self.new.end ≡ self.old.end }
         ensures held { self.new.held ≡ self.old.held }
         ensures room { out.new.room ≡ out.old.room }
-        ensures put { PutsReady self.old.vertex self.old.end self.old.ready.entries out.old.items self.new.ready.entries out.new.items }
-        ensures all { result ≡ true → self.new.ready.entries ≡ [] }
+        ensures put { PutsReady self.old.vertex self.old.end self.old.ready.items out.old.items self.new.ready.items out.new.items }
+        ensures all { result ≡ true → self.new.ready.items ≡ [] }
         ensures full { result ≡ false → length out.new.items ≡ out.new.room }
     {
-        while let Some((key, acc)) = self.ready.first_key_value() {
+        while let Some((key, acc)) = self.ready.front() {
             let row = Row {
                 vertex: self.vertex,
                 end: self.end,
@@ -225,7 +214,7 @@ impl CombineP {
             if let Err(_) = out.offer(Item::Row(row)) {
                 return false;
             }
-            let _ = self.ready.pop_first();
+            let _ = self.ready.pop_front();
         }
         true
     }
@@ -233,15 +222,15 @@ impl CombineP {
     // Puts the rows of the windows that end at most at `t`, and says whether all were put.
     fn give_until(&mut self, t: i64, out: &mut Outbox) -> Result<bool, NoMemory>
         requires range { IsWithin most_row_end self.old.end }
-        requires kept { IsKept self.old.held.entries }
+        requires kept { IsKept self.old.held }
         ensures rest { SameRest self.old self.new }
         ensures gave { Gave (combine_of self.old) out.old.items (combine_of self.new) out.new.items }
         ensures bound { Passes self.old.passed (Some t) → Passes self.new.passed (Some t) }
         ensures room { out.new.room ≡ out.old.room }
-        ensures all { result ≡ Ok true → self.new.ready.entries ≡ [] }
-        ensures clear { result ≡ Ok true → Clear self.new.policy.size self.new.policy.slide self.new.passed self.new.held.entries t }
-        ensures above { result ≡ Ok true → OpenAbove self.new.policy.size self.new.policy.slide t self.new.held.entries }
-        ensures wants { OnErr result (Clear self.old.policy.size self.old.policy.slide self.old.passed self.old.held.entries t → ⊥) }
+        ensures all { result ≡ Ok true → self.new.ready.items ≡ [] }
+        ensures clear { result ≡ Ok true → Clear self.new.policy.size self.new.policy.slide self.new.passed self.new.held t }
+        ensures above { result ≡ Ok true → OpenAbove self.new.policy.size self.new.policy.slide t self.new.held }
+        ensures wants { OnErr result (Clear self.old.policy.size self.old.policy.slide self.old.passed self.old.held t → ⊥) }
         ensures full { result ≡ Ok false → length out.new.items ≡ out.new.room }
     {
         while self.put_ready(out) {
@@ -259,13 +248,13 @@ impl CombineP {
     // Puts the rows of all windows, and says whether all were put.
     fn give_all(&mut self, out: &mut Outbox) -> Result<bool, NoMemory>
         requires range { IsWithin most_row_end self.old.end }
-        requires kept { IsKept self.old.held.entries }
+        requires kept { IsKept self.old.held }
         ensures rest { SameRest self.old self.new }
         ensures gave { Gave (combine_of self.old) out.old.items (combine_of self.new) out.new.items }
         ensures room { out.new.room ≡ out.old.room }
-        ensures all { result ≡ Ok true → self.new.ready.entries ≡ [] }
-        ensures none { result ≡ Ok true → self.new.held.entries ≡ [] }
-        ensures wants { OnErr result (self.old.held.entries ≡ [] → ⊥) }
+        ensures all { result ≡ Ok true → self.new.ready.items ≡ [] }
+        ensures none { result ≡ Ok true → self.new.held ≡ [] }
+        ensures wants { OnErr result (self.old.held ≡ [] → ⊥) }
         ensures full { result ≡ Ok false → length out.new.items ≡ out.new.room }
     {
         while self.put_ready(out) {
@@ -315,7 +304,7 @@ impl Processor for CombineP {
         if let Item::Frame(frame) = item {
             // What ends too low for any window that is still to come is not kept.
             if self.has_window(frame.end) {
-                keep(&mut self.held, frame.end, frame.key, &frame.acc)?;
+                self.held.keep(frame.end, &frame.key, &frame.acc)?;
             }
             return Ok(true);
         }
@@ -328,7 +317,7 @@ impl Processor for CombineP {
     fn mark(&mut self, mark: Mark, out: &mut Outbox) -> Result<bool, NoMemory>
         requires { CombineMayCall self.old (MarkTold mark) }
         ensures call { CombineCall self.old (MarkTold mark) out.old result self.new out.new }
-        ensures memory { OnErr result (Clear self.old.policy.size self.old.policy.slide self.old.passed self.old.held.entries mark → ⊥) }
+        ensures memory { OnErr result (Clear self.old.policy.size self.old.policy.slide self.old.passed self.old.held mark → ⊥) }
     {
         let until = later(self.begun, mark);
         if !self.give_until(until.t, out)? {
@@ -354,7 +343,7 @@ impl Processor for CombineP {
     fn finish(&mut self, out: &mut Outbox) -> Result<bool, NoMemory>
         requires { CombineMayCall self.old Finish }
         ensures call { CombineCall self.old Finish out.old result self.new out.new }
-        ensures memory { OnErr result (self.old.held.entries ≡ [] → ⊥) }
+        ensures memory { OnErr result (self.old.held ≡ [] → ⊥) }
     {
         self.give_all(out)
     }

@@ -13,6 +13,7 @@ mod combine;
 mod driven;
 mod frame;
 mod held;
+mod held_frames;
 mod laws;
 mod open_frames;
 mod ordered;

@@ -1,14 +1,18 @@
 // The frames that are open, with what is known of each key.
-ghost use Rattle.std.specs.Prelude.{◌≡◌, ◌≤ℤ◌, Some, [], ◌∷◌, map, slice_get, OnOk, OnErr, IfOk, IfSome, IfNone};
+ghost use Rattle.std.specs.Prelude.{◌≡◌, ◌≤ℤ◌, ◌<ℤ◌, Some, [], ◌∷◌, map, slice_get, OnOk, OnErr, IfOk, IfSome, IfNone};
 ghost use Rattle.std.specs.Option.{option_map};
 ghost use Rattle.jet_items.specs.Ranges.{IsWithin, most_frame_end};
 ghost use Rattle.jet_window.specs.inner.FrameMoves.{StopsAbove};
+ghost use Rattle.jet_window.specs.inner.Reached.{Tracks, EnteredUntil, bound_behind};
 ghost use Rattle.jet_window.specs.FrameTables.{frame_of, joined_in};
 
+use crate::held_frames::enter;
+use crate::slide::Slide;
 use jet_items::{Acc, Frame, Key, NoMemory};
 use std::alloc::Global;
 use std::collections::BTreeMap;
 use std::marker::Model;
+use std::ops::Bound;
 
 // Accumulators by the end of their frame, then key.
 #[derive(Drop)]
@@ -75,10 +79,43 @@ impl OpenFrames {
         Some(frame)
     }
 
+    // The end of the first frame.
+    pub(crate) fn first_end(&self) -> Option<i64>
+        ensures { result ≡ option_map (λ f. f.0.0) (slice_get self.now 0) }
+    {
+        let (place, _) = self.accs.first_key_value()?;
+        Some(place.0)
+    }
+
+    // Lets the frames behind a place that end at most at `end` enter the slides of their keys, and answers the place of the
+    // last one that has entered.
+    pub(crate) fn enter_until(
+        &self,
+        alloc: Global,
+        reached: Option<(i64, Key)>,
+        end: i64,
+        slides: &mut BTreeMap<Key, Slide>,
+    ) -> Result<Option<(i64, Key)>, NoMemory>
+        requires entered { Tracks reached self.now slides.old.entries }
+        requires until { IfSome reached (λ r. r.0 ≤ℤ end) }
+        ensures { IfOk result (λ last. EnteredUntil end last self.now slides.new.entries) }
+    {
+        let mut last = reached;
+        for (place, acc) in self.accs.range((behind(&reached), Bound::Unbounded)) {
+            if end < place.0 {
+                return Ok(last);
+            }
+            enter(alloc, slides, place, acc)?;
+            last = Some(*place);
+        }
+        Ok(last)
+    }
+
     // Takes the first frame and key out.
     pub(crate) fn take_first(&mut self) -> Option<((i64, Key), Acc)>
         ensures some { IfSome result (λ f. self.old ≡ f ∷ self.new) }
         ensures none { IfNone result (self.old ≡ []) }
+        ensures kept { IfNone result (self.new ≡ self.old) }
     {
         self.accs.pop_first()
     }
@@ -98,5 +135,15 @@ impl OpenFrames {
             frames.push(frame)?;
         }
         Ok(frames)
+    }
+}
+
+// The bound of what stands behind a place, or of all where there is none.
+fn behind(reached: &Option<(i64, Key)>) -> Bound<(i64, Key)>
+    ensures { result ≡ bound_behind reached.now }
+{
+    match reached {
+        None => Bound::Unbounded,
+        Some(place) => Bound::Excluded(*place),
     }
 }

@@ -1,7 +1,7 @@
 // The frames of one key in a window that slides on: frames enter at its upper end and leave at its lower one. Count and
 // sum are kept by adding and deducting; the least and the greatest value are not known of what is left when a frame has
 // left, so they are recombined.
-ghost use Rattle.std.specs.Prelude.{◌≡◌, ◌<ℤ◌, List, [], ◌∷◌, ◌++◌, drop, OnOk, OnErr, Some};
+ghost use Rattle.std.specs.Prelude.{◌≡◌, ◌<ℤ◌, List, [], ◌∷◌, ◌++◌, drop, true, OnOk, OnErr, Some};
 ghost use Rattle.jet_items.specs.Order.{Each};
 ghost use Rattle.jet_items.specs.Totals.{both};
 ghost use Rattle.jet_window.specs.Slides.{EndsRise, first_end, joined_pairs, pairs_above};
@@ -92,8 +92,15 @@ impl Slide {
         }
     }
 
+    // Whether no pair is held.
+    pub(crate) fn is_empty(&self) -> bool
+        ensures { result ≡ true → self.now ≡ [] }
+    {
+        self.pairs.is_empty()
+    }
+
     // Removes the first pair, and deducts it.
-    fn leave_first(&mut self)
+    pub(crate) fn leave_first(&mut self)
         ensures { self.new ≡ drop 1 self.old }
     {
         if let Some(first) = self.pairs.pop_front() {

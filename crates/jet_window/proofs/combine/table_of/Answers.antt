@@ -7,7 +7,7 @@ use Rattle.jet_window.proofs.Standing.{table_more, table_none}
 use Rattle.jet_window.proofs.combine.table_of.Goals as goal
 
 pub loop-frame-init : goal.loop-frame-init
-loop-frame-init c = table_none [] c.new-held.result.entries refl c.new-held.ensures.empty
+loop-frame-init c = table_none [] c.new-held.result refl c.new-held.ensures
 
 pub loop-frame-preserved : goal.loop-frame-preserved
 loop-frame-preserved c =
@@ -17,5 +17,5 @@ loop-frame-preserved c =
     let held = simp to_z-of_z at c.in_ok-keep.ensures.ok in
     let all : take (c.loop-frame.frame-index + 1) c.args.frames.now ≡ front ++ f ∷ [] =
     take_more c.args.frames.now c.loop-frame.frame-index c.frame-item.result c.loop-frame-test.true ∙ ap (λ (g : FrameValue). front ++ g ∷ []) (sym c.frame-item.is ∙ sym c.frame.view_is) in
-    subst (λ (fs : List FrameValue). TableOf fs c.keep.new.held.entries) (sym all)
-    (subst (λ (t : Table). TableOf (front ++ f ∷ []) t) (sym held) (table_more front c.loop-frame.held.entries f c.frame.invariant c.loop-frame.invariant))
+    subst (λ (fs : List FrameValue). TableOf fs c.keep.new.self) (sym all)
+    (subst (λ (t : Table). TableOf (front ++ f ∷ []) t) (sym held) (table_more front c.loop-frame.held f c.frame.invariant c.loop-frame.invariant))

@@ -12,8 +12,8 @@ invariant-loop-self l = record {
   gave : Gave (combine_of l.initial.self) l.initial.out.items (combine_of l.self) l.out.items;
   room : l.out.room ≡ l.initial.out.room;
   range : IsWithin most_row_end l.self.end;
-  kept : IsKept l.self.held.entries;
-  empty : l.initial.self.held.entries ≡ [] → l.self.held.entries ≡ [];
+  kept : IsKept l.self.held;
+  empty : l.initial.self.held ≡ [] → l.self.held ≡ [];
 }
 
 abbrev pub decreases-loop-self : goal.decreases-loop-self

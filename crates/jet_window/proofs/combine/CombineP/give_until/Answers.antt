@@ -9,7 +9,15 @@ use Rattle.jet_window.proofs.Standing.{Gave-refl, Gave-trans}
 use Rattle.jet_window.specs.CombineView.{combine_of}
 use Rattle.jet_window.specs.Combining.{Clear, Passes, OpenAbove}
 use Rattle.jet_window.proofs.Giving.{rest_refl, rest_trans, gave_put, gave_next, up_step, nearer, when_err, clear_next, clear_up, skips_clear, open_next, not_clear, passes_up}
+use Rattle.jet_window.proofs.Ending.{reaches_low}
 use Rattle.jet_window.proofs.combine.CombineP.give_until.Goals as goal
+
+pub take_up-requires-clause-reaches : goal.take_up-requires-clause-reaches
+take_up-requires-clause-reaches c =
+    let fits : FitsSigned w64 c.in-Some.end = search rules in
+    let next : IsNextEnd c.next_end.new.self.policy.size c.next_end.new.self.policy.slide c.next_end.new.self.passed c.next_end.new.self.held c.in-Some.end = rw (c.next_end.ensures.rest.policy, c.next_end.ensures.passed) c.in-Some.ensures.some in
+    let low = reaches_low c.next_end.new.self.policy.size c.next_end.new.self.policy.slide c.in-Some.end c.next_end.new.self.held next.reaches in
+    simp to_z-of_z low
 
 pub returns-in_default-clause-gave : goal.returns-in_default-clause-gave
 returns-in_default-clause-gave c =
@@ -43,35 +51,35 @@ returns-clause-bound c =
 pub returns-then-t-end-clause-clear : goal.returns-then-t-end-clause-clear
 returns-then-t-end-clause-clear c =
     let fits : FitsSigned w64 c.in-Some.end = search rules in
-    let next : IsNextEnd c.next_end.new.self.policy.size c.next_end.new.self.policy.slide c.next_end.new.self.passed c.next_end.new.self.held.entries c.in-Some.end = rw (c.next_end.ensures.rest.policy, c.next_end.ensures.passed) c.in-Some.ensures.some in
+    let next : IsNextEnd c.next_end.new.self.policy.size c.next_end.new.self.policy.slide c.next_end.new.self.passed c.next_end.new.self.held c.in-Some.end = rw (c.next_end.ensures.rest.policy, c.next_end.ensures.passed) c.in-Some.ensures.some in
     let fits_t : FitsSigned w64 c.args.t = c.ranges.t in
     let lt : c.args.t <ℤ c.in-Some.end = omega (arith, ints) in
-    λ ok. skips_clear c.next_end.new.self.policy.size c.next_end.new.self.policy.slide c.next_end.new.self.passed c.next_end.new.self.held.entries c.in-Some.end c.args.t next lt
+    λ ok. skips_clear c.next_end.new.self.policy.size c.next_end.new.self.policy.slide c.next_end.new.self.passed c.next_end.new.self.held c.in-Some.end c.args.t next lt
 
 pub returns-then-t-end-clause-above : goal.returns-then-t-end-clause-above
 returns-then-t-end-clause-above c =
     let fits : FitsSigned w64 c.in-Some.end = search rules in
-    let next : IsNextEnd c.next_end.new.self.policy.size c.next_end.new.self.policy.slide c.next_end.new.self.passed c.next_end.new.self.held.entries c.in-Some.end = rw (c.next_end.ensures.rest.policy, c.next_end.ensures.passed) c.in-Some.ensures.some in
+    let next : IsNextEnd c.next_end.new.self.policy.size c.next_end.new.self.policy.slide c.next_end.new.self.passed c.next_end.new.self.held c.in-Some.end = rw (c.next_end.ensures.rest.policy, c.next_end.ensures.passed) c.in-Some.ensures.some in
     let fits_t : FitsSigned w64 c.args.t = c.ranges.t in
     let lt : c.args.t <ℤ c.in-Some.end = omega (arith, ints) in
-    λ ok. open_next c.next_end.new.self.policy.size c.next_end.new.self.policy.slide c.in-Some.end c.args.t c.next_end.new.self.held.entries next.reaches lt
+    λ ok. open_next c.next_end.new.self.policy.size c.next_end.new.self.policy.slide c.in-Some.end c.args.t c.next_end.new.self.held next.reaches lt
 
 pub loop-self-preserved : goal.loop-self-preserved
 loop-self-preserved c =
     let fits : FitsSigned w64 c.in-Some.end = search rules in
-    let next : IsNextEnd c.next_end.new.self.policy.size c.next_end.new.self.policy.slide c.next_end.new.self.passed c.next_end.new.self.held.entries c.in-Some.end = rw (c.next_end.ensures.rest.policy, c.next_end.ensures.passed) c.in-Some.ensures.some in
+    let next : IsNextEnd c.next_end.new.self.policy.size c.next_end.new.self.policy.slide c.next_end.new.self.passed c.next_end.new.self.held c.in-Some.end = rw (c.next_end.ensures.rest.policy, c.next_end.ensures.passed) c.in-Some.ensures.some in
     let passed = simp to_z-of_z at c.in_ok-take_up.ensures.passed in
     let end = simp to_z-of_z at c.in_ok-take_up.ensures.end in
     let rows = simp to_z-of_z at c.in_ok-take_up.ensures.rows in
-    let none : c.next_end.new.self.ready.entries ≡ [] = rw c.next_end.ensures.ready (c.put_ready.ensures.all c.loop-self-test.true) in
+    let none : c.next_end.new.self.ready.items ≡ [] = rw c.next_end.ensures.ready (c.put_ready.ensures.all c.loop-self-test.true) in
     let before : Gave (combine_of c.args.self.now) c.args.out.now.items (combine_of c.next_end.new.self) c.put_ready.new.out.items =
     gave_next c.args.self.now c.put_ready.new.self c.next_end.new.self c.args.out.now.items c.put_ready.new.out.items
     (gave_put c.args.self.now c.loop-self.self c.put_ready.new.self c.args.out.now.items c.loop-self.out.items c.put_ready.new.out.items c.loop-self.invariant.gave c.put_ready.ensures.rest c.put_ready.ensures.passed c.put_ready.ensures.end c.put_ready.ensures.held c.put_ready.ensures.put)
     c.next_end.ensures.rest c.next_end.ensures.passed c.next_end.ensures.end c.next_end.ensures.ready c.next_end.ensures.forgets in
-    let kept : IsKept c.put_ready.new.self.held.entries = rw c.put_ready.ensures.held c.loop-self.invariant.kept in
+    let kept : IsKept c.put_ready.new.self.held = rw c.put_ready.ensures.held c.loop-self.invariant.kept in
     let fits_t : FitsSigned w64 c.args.t = c.ranges.t in
     let le : c.in-Some.end ≤ℤ to_z w64 (of_z w64 c.args.t) = omega (arith, ints) in
-    let clear_here : Clear c.args.self.now.policy.size c.args.self.now.policy.slide c.args.self.now.passed c.args.self.now.held.entries (to_z w64 (of_z w64 c.args.t)) → Clear c.next_end.new.self.policy.size c.next_end.new.self.policy.slide c.next_end.new.self.passed c.next_end.new.self.held.entries (to_z w64 (of_z w64 c.args.t)) =
+    let clear_here : Clear c.args.self.now.policy.size c.args.self.now.policy.slide c.args.self.now.passed c.args.self.now.held (to_z w64 (of_z w64 c.args.t)) → Clear c.next_end.new.self.policy.size c.next_end.new.self.policy.slide c.next_end.new.self.passed c.next_end.new.self.held (to_z w64 (of_z w64 c.args.t)) =
     λ clear. clear_next c.loop-self.self c.put_ready.new.self c.next_end.new.self _ c.put_ready.ensures.rest.policy c.put_ready.ensures.passed c.put_ready.ensures.held c.next_end.ensures.rest.policy c.next_end.ensures.passed c.next_end.ensures.forgets (c.loop-self.invariant.clear clear) in
     record {
       rest = rest_trans _ _ _ (rest_trans _ _ _ (rest_trans _ _ _ c.loop-self.invariant.rest c.put_ready.ensures.rest) c.next_end.ensures.rest) c.in_ok-take_up.ensures.rest;
@@ -87,10 +95,10 @@ loop-self-preserved c =
 pub loop-self-smaller : goal.loop-self-smaller
 loop-self-smaller c =
     let fits : FitsSigned w64 c.in-Some.end = search rules in
-    let next : IsNextEnd c.next_end.new.self.policy.size c.next_end.new.self.policy.slide c.next_end.new.self.passed c.next_end.new.self.held.entries c.in-Some.end = rw (c.next_end.ensures.rest.policy, c.next_end.ensures.passed) c.in-Some.ensures.some in
+    let next : IsNextEnd c.next_end.new.self.policy.size c.next_end.new.self.policy.slide c.next_end.new.self.passed c.next_end.new.self.held c.in-Some.end = rw (c.next_end.ensures.rest.policy, c.next_end.ensures.passed) c.in-Some.ensures.some in
     let passed = simp to_z-of_z at c.in_ok-take_up.ensures.passed in
     let same : c.next_end.new.self.passed ≡ c.loop-self.self.passed = c.next_end.ensures.passed ∙ c.put_ready.ensures.passed in
-    let less : gap (Some c.in-Some.end) < gap c.next_end.new.self.passed = nearer c.next_end.new.self.policy.size c.next_end.new.self.policy.slide c.next_end.new.self.passed c.next_end.new.self.held.entries c.in-Some.end next in
+    let less : gap (Some c.in-Some.end) < gap c.next_end.new.self.passed = nearer c.next_end.new.self.policy.size c.next_end.new.self.policy.slide c.next_end.new.self.passed c.next_end.new.self.held c.in-Some.end next in
     subst (λ (o : Option ℤ). gap o < gap c.loop-self.self.passed) (sym passed) (subst (λ (o : Option ℤ). gap (Some c.in-Some.end) < gap o) same less)
 
 pub returns-in_err-take_up-clause-gave : goal.returns-in_err-take_up-clause-gave
@@ -103,14 +111,14 @@ returns-in_err-take_up-clause-gave c =
 pub returns-in_err-take_up-clause-wants : goal.returns-in_err-take_up-clause-wants
 returns-in_err-take_up-clause-wants c =
     let fits : FitsSigned w64 c.in-Some.end = search rules in
-    let next : IsNextEnd c.next_end.new.self.policy.size c.next_end.new.self.policy.slide c.next_end.new.self.passed c.next_end.new.self.held.entries c.in-Some.end = rw (c.next_end.ensures.rest.policy, c.next_end.ensures.passed) c.in-Some.ensures.some in
+    let next : IsNextEnd c.next_end.new.self.policy.size c.next_end.new.self.policy.slide c.next_end.new.self.passed c.next_end.new.self.held c.in-Some.end = rw (c.next_end.ensures.rest.policy, c.next_end.ensures.passed) c.in-Some.ensures.some in
     let fits_t : FitsSigned w64 c.args.t = c.ranges.t in
     let le : c.in-Some.end ≤ℤ to_z w64 (of_z w64 c.args.t) = omega (arith, ints) in
-    let clear_here : Clear c.args.self.now.policy.size c.args.self.now.policy.slide c.args.self.now.passed c.args.self.now.held.entries (to_z w64 (of_z w64 c.args.t)) → Clear c.next_end.new.self.policy.size c.next_end.new.self.policy.slide c.next_end.new.self.passed c.next_end.new.self.held.entries (to_z w64 (of_z w64 c.args.t)) =
+    let clear_here : Clear c.args.self.now.policy.size c.args.self.now.policy.slide c.args.self.now.passed c.args.self.now.held (to_z w64 (of_z w64 c.args.t)) → Clear c.next_end.new.self.policy.size c.next_end.new.self.policy.slide c.next_end.new.self.passed c.next_end.new.self.held (to_z w64 (of_z w64 c.args.t)) =
     λ clear. clear_next c.loop-self.self c.put_ready.new.self c.next_end.new.self _ c.put_ready.ensures.rest.policy c.put_ready.ensures.passed c.put_ready.ensures.held c.next_end.ensures.rest.policy c.next_end.ensures.passed c.next_end.ensures.forgets (c.loop-self.invariant.clear clear) in
     let t_is : c.args.t ≡ to_z w64 (of_z w64 c.args.t) = omega (arith, ints) in
-    when_err c.from_residual.result (λ clear. not_clear c.next_end.new.self.policy.size c.next_end.new.self.policy.slide c.next_end.new.self.passed c.next_end.new.self.held.entries c.in-Some.end _ next le
-    (clear_here (subst (λ (t : ℤ). Clear c.args.self.now.policy.size c.args.self.now.policy.slide c.args.self.now.passed c.args.self.now.held.entries t) t_is clear)))
+    when_err c.from_residual.result (λ clear. not_clear c.next_end.new.self.policy.size c.next_end.new.self.policy.slide c.next_end.new.self.passed c.next_end.new.self.held c.in-Some.end _ next le
+    (clear_here (subst (λ (t : ℤ). Clear c.args.self.now.policy.size c.args.self.now.policy.slide c.args.self.now.passed c.args.self.now.held t) t_is clear)))
 
 pub returns-clause-gave : goal.returns-clause-gave
 returns-clause-gave c =

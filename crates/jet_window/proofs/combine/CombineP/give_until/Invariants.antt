@@ -13,9 +13,9 @@ invariant-loop-self l = record {
   gave : Gave (combine_of l.initial.self) l.initial.out.items (combine_of l.self) l.out.items;
   room : l.out.room ≡ l.initial.out.room;
   range : IsWithin most_row_end l.self.end;
-  kept : IsKept l.self.held.entries;
+  kept : IsKept l.self.held;
   bound : Passes l.initial.self.passed (Some l.t) → Passes l.self.passed (Some l.t);
-  clear : Clear l.initial.self.policy.size l.initial.self.policy.slide l.initial.self.passed l.initial.self.held.entries l.t → Clear l.self.policy.size l.self.policy.slide l.self.passed l.self.held.entries l.t;
+  clear : Clear l.initial.self.policy.size l.initial.self.policy.slide l.initial.self.passed l.initial.self.held l.t → Clear l.self.policy.size l.self.policy.slide l.self.passed l.self.held l.t;
 }
 
 abbrev pub decreases-loop-self : goal.decreases-loop-self

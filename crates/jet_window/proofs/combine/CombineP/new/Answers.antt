@@ -10,5 +10,5 @@ use Rattle.jet_window.proofs.combine.CombineP.new.Goals as goal
 pub returns-clause-stands : goal.returns-clause-stands
 returns-clause-stands c =
     let p : CombineP = record { vertex = c.args.vertex; policy = c.args.policy; alloc = c.args.alloc; begun = None; start = c.new.result; last = None; passed = None; end = pos 0; held = c.new-2.result; ready = c.new-3.result } in
-    stands_new (start_of p) (combine_of p) refl (table_none c.new.result.items c.new-2.result.entries c.new.ensures.items c.new-2.ensures.empty)
-    (λ grid. subst (Each (λ (f : FrameValue). InOpenWindow c.args.policy.size c.args.policy.slide (λ e. is_due None e || due_after [] e) f.end)) (sym c.new.ensures.items) tt) c.new-3.ensures.empty (omega arith, omega arith)
+    stands_new (start_of p) (combine_of p) refl (table_none c.new.result.items c.new-2.result c.new.ensures.items c.new-2.ensures)
+    (λ grid. subst (Each (λ (f : FrameValue). InOpenWindow c.args.policy.size c.args.policy.slide (λ e. is_due None e || due_after [] e) f.end)) (sym c.new.ensures.items) tt) c.new-3.ensures.items (omega arith, omega arith)

@@ -19,9 +19,9 @@ returns-in_ok-keep-clause-call c =
     let is : item.Frame f ≡ c.args.item.now = ap item.Frame c.frame.view_is ∙ sym c.in-Frame.is in
     let held = simp to_z-of_z at c.in_ok-keep.ensures.ok in
     let some = simp to_z-of_z at (c.has_window.ensures.yes c.if-has_window.true) in
-    let s : CombineP = record c.args.self.now { held = c.keep.new.held } in
+    let s : CombineP = record c.args.self.now { held = c.keep.new.self } in
     subst (λ (x : Item). Call Stands Amid Alike false c.args.self.now (Given c.args._port c.args._queue x) c.args.out.now (Ok true) s c.args.out.now) is
-    (frame_call c.args.self.now s c.args._port c.args._queue f c.args.out.now c.frame.invariant some (rest_held c.args.self.now c.keep.new.held) refl refl refl held)
+    (frame_call c.args.self.now s c.args._port c.args._queue f c.args.out.now c.frame.invariant some (rest_held c.args.self.now c.keep.new.self) refl refl refl held)
 
 pub returns-else-has_window-clause-call : goal.returns-else-has_window-clause-call
 returns-else-has_window-clause-call c =
@@ -40,7 +40,7 @@ returns-in-Ok-clause-call c =
 pub returns-in_err-keep-clause-call : goal.returns-in_err-keep-clause-call
 returns-in_err-keep-clause-call c =
     nothing_call c.args.self.now _ c.args._port c.args._queue c.args.item.now c.args.out.now c.from_residual.result (err_not_ok c.from_residual.result true c.from_residual.ensures.0)
-    (λ e. absurd (err_not_ok c.from_residual.result false c.from_residual.ensures.0 e)) (rest_held c.args.self.now c.keep.new.held) refl refl c.in_err-keep.ensures.err refl
+    (λ e. absurd (err_not_ok c.from_residual.result false c.from_residual.ensures.0 e)) (rest_held c.args.self.now c.keep.new.self) refl refl c.in_err-keep.ensures.err refl
 
 pub returns-in-Err-clause-call : goal.returns-in-Err-clause-call
 returns-in-Err-clause-call c =

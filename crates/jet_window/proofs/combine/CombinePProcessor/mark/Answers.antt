@@ -28,9 +28,9 @@ returns-in-Ok-clause-call c =
     let bound = simp to_z-of_z at c.give_until.ensures.bound in
     let done = c.in_ok-give_until.was ∙ ap Ok c.if-not-branch.false in
     let clear = simp to_z-of_z at (c.give_until.ensures.clear done) in
-    let clear_until : Clear c.give_until.new.self.policy.size c.give_until.new.self.policy.slide c.give_until.new.self.passed c.give_until.new.self.held.entries c.later-until.result = subst (λ (t : ℤ). Clear c.give_until.new.self.policy.size c.give_until.new.self.policy.slide c.give_until.new.self.passed c.give_until.new.self.held.entries t) c.until.view_is clear in
+    let clear_until : Clear c.give_until.new.self.policy.size c.give_until.new.self.policy.slide c.give_until.new.self.passed c.give_until.new.self.held c.later-until.result = subst (λ (t : ℤ). Clear c.give_until.new.self.policy.size c.give_until.new.self.policy.slide c.give_until.new.self.passed c.give_until.new.self.held t) c.until.view_is clear in
     let above = simp to_z-of_z at (c.give_until.ensures.above done) in
-    let above_until : OpenAbove c.give_until.new.self.policy.size c.give_until.new.self.policy.slide c.later-until.result c.give_until.new.self.held.entries = subst (λ (t : ℤ). OpenAbove c.give_until.new.self.policy.size c.give_until.new.self.policy.slide t c.give_until.new.self.held.entries) c.until.view_is above in
+    let above_until : OpenAbove c.give_until.new.self.policy.size c.give_until.new.self.policy.slide c.later-until.result c.give_until.new.self.held = subst (λ (t : ℤ). OpenAbove c.give_until.new.self.policy.size c.give_until.new.self.policy.slide t c.give_until.new.self.held) c.until.view_is above in
     mark_whole c.args.self.now c.give_until.new.self _ c.args.mark c.later-until.result c.args.out.now c.give_until.new.out c.offer.new.self c.give_until.ensures.rest c.give_until.ensures.gave (bound_until _ _ _ _ _ c.until.view_is c.later-until.ensures bound) c.give_until.ensures.room
     c.later-until.ensures (c.give_until.ensures.all done) clear_until above_until refl refl refl refl refl refl refl refl refl (ap (λ (b : BoxView). b.room) c.in-Ok.ensures.put) (ap (λ (b : BoxView). b.items) c.in-Ok.ensures.put)
 
@@ -46,5 +46,5 @@ returns-in_err-give_until-clause-memory c =
     let fits : FitsSigned w64 c.until.inside.t = search rules in
     let wants = simp to_z-of_z at c.in_err-give_until.ensures.wants in
     when_err c.from_residual.result
-    (λ clear. subst (λ (t : ℤ). Clear c.args.self.now.policy.size c.args.self.now.policy.slide c.args.self.now.passed c.args.self.now.held.entries t → ⊥) c.until.view_is wants
-    (clear_until c.args.self.now.policy.size c.args.self.now.policy.slide c.args.self.now.begun c.args.self.now.passed c.args.self.now.held.entries c.args.mark c.later-until.result c.requires.2.promises.begins c.later-until.ensures clear))
+    (λ clear. subst (λ (t : ℤ). Clear c.args.self.now.policy.size c.args.self.now.policy.slide c.args.self.now.passed c.args.self.now.held t → ⊥) c.until.view_is wants
+    (clear_until c.args.self.now.policy.size c.args.self.now.policy.slide c.args.self.now.begun c.args.self.now.passed c.args.self.now.held c.args.mark c.later-until.result c.requires.2.promises.begins c.later-until.ensures clear))
