@@ -1,6 +1,5 @@
 -- The least mark, found queue by queue.
-use Rattle.std.proofs.Common.{◌≡◌, ℕ, suc, ◌<◌, ◌≤◌, Bool, true, false, not, ◌||◌, cond, ℤ, List, [], ◌∷◌, length, drop, drop-cons, slice_index_or, Option, Some, None, refl, ap, sym, ◌∙◌}
-use Rattle.std.proofs.lemmas.List.{drop_all}
+use Rattle.std.proofs.Common.{◌≡◌, Bool, true, false, cond, ℤ, List, [], ◌∷◌, Option, Some, None, refl}
 use Rattle.std.specs.Prelude.{is_some}
 use Rattle.std.specs.List.{reduce, fold, list_all, filter_map}
 use Rattle.std.specs.Option.{option_and_then}
@@ -44,21 +43,3 @@ found (q ∷ qs) = λ so_far. found_next so_far q.done q.idle q.mark qs (found q
 
 pub low_from-all : (qs : List Queue) → low_from None qs ≡ present qs
 low_from-all qs = found qs None
-
--- all queues were seen
-pub found_all : (so_far : Option ℤ) (qs : List Queue) (i : ℕ) → length qs ≤ i → low_from None qs ≡ low_from so_far (drop i qs) → so_far ≡ present qs
-found_all so_far qs i over reached =
-    let nothing_left : low_from so_far (drop i qs) ≡ so_far = ap (λ rest. low_from so_far rest) (drop_all i qs over) in
-    sym nothing_left ∙ sym reached ∙ low_from-all qs
-
-stops : (so_far : Option ℤ) (done idle : Bool) (mark : Option ℤ) (qs : List Queue) → not (done || idle) ≡ true → mark ≡ None → low_from so_far (record { mark = mark; done = done; idle = idle } ∷ qs) ≡ None
-stops so_far true idle mark qs counted no_mark = cc
-stops so_far false true mark qs counted no_mark = cc
-stops so_far false false None qs counted no_mark = refl
-stops so_far false false (Some t) qs counted no_mark = cc
-
--- a queue that counts has no mark
-pub found_none : (so_far : Option ℤ) (qs : List Queue) (i : ℕ) (q : Queue) → i < length qs → q ≡ slice_index_or qs i q → counts q ≡ true → q.mark ≡ None → low_from None qs ≡ low_from so_far (drop i qs) → None ≡ present qs
-found_none so_far qs i q inside is counted no_mark reached =
-    let here : drop i qs ≡ q ∷ drop (suc i) qs = drop-cons qs i q inside ∙ ap (λ p. p ∷ drop (suc i) qs) (sym is) in
-    sym (stops so_far q.done q.idle q.mark (drop (suc i) qs) counted no_mark) ∙ ap (λ rest. low_from so_far rest) (sym here) ∙ sym reached ∙ low_from-all qs

@@ -1,4 +1,6 @@
 pub mod Least
+pub mod Lesser
+pub mod Playing
 pub mod Told
 pub mod Bound
 pub mod Rising

@@ -1,9 +1,10 @@
 -- The watermark after one call more.
-use Rattle.std.proofs.Common.{◌≡◌, ℕ, zero, suc, ◌<◌, Bool, true, false, ◌&&◌, cond, ℤ, ◌≤ℤ◌, List, [], ◌∷◌, ◌++◌, length, map, take, drop, replicate, Option, Some, None, refl, ap, sym, subst, ◌∙◌, arith, append-nil, slice_index_or, slice_set}
+use Rattle.std.proofs.Common.{◌≡◌, ℕ, zero, suc, ◌<◌, Bool, true, false, not, ◌&&◌, cond, ℤ, ◌≤ℤ◌, List, [], ◌∷◌, ◌++◌, length, map, replicate, Option, Some, None, refl, ap, sym, subst, ◌∙◌, arith, append-nil, slice_index_or}
 use Rattle.std.proofs.lemmas.Int.{ints, int_max_is}
-use Rattle.std.proofs.lemmas.List.{take_all, drop_all, length-set, length-map, length-replicate, map-append, get_or_default}
+use Rattle.std.proofs.lemmas.List.{length-set, length-map, length-replicate, map-append}
 use Rattle.std.proofs.lemmas.List.Elements.{filter_map-append}
 use Rattle.std.proofs.lemmas.List.Sums.{fold_push}
+use Rattle.std.proofs.lemmas.List.Folds.{sum_by-replicate}
 use Rattle.std.specs.Prelude.{slice_get, int_lt}
 use Rattle.std.specs.List.{reduce, filter_map}
 use Rattle.std.specs.Option.{IsSomeAnd}
@@ -12,25 +13,10 @@ use Rattle.jet_coalescer.specs.declared.queue.Queue.{Queue}
 use Rattle.jet_coalescer.specs.View.{View}
 use Rattle.jet_coalescer.specs.Low.{History, HasHeard, unheard, known, with_mark, with_done, low, all_done, risen, change_of}
 use Rattle.jet_coalescer.specs.Notes.{Note, Marked, Ended, Idled, Woken, queues_after, fronts, low_after, HasNotes}
-use Rattle.jet_coalescer.specs.Queues.{unknown, counts, greatest_with, greater, with_queue, with_queue_mark, with_queue_done, with_queue_idle, marked, ended, idled, woken, present, none_left, HaveReached, is_done_at}
+use Rattle.jet_coalescer.specs.Queues.{unknown, counts, greatest_with, greater, with_queue_mark, with_queue_done, with_queue_idle, marked, ended, idled, woken, present, none_left, HaveReached, is_done_at}
+use Rattle.jet_coalescer.specs.inner.Counts.{left_count}
 use Rattle.jet_coalescer.proofs.Bound.{HasNotLess, bounds_cons, present_reached, present_reaches, reached_rest}
 use Rattle.jet_coalescer.proofs.Told.{known-unheard, low-known, all_done-known, marked-known, ended-known, marked-told, ended-told, idled-told, woken-told}
-
--- a queue was written over a slice of all, and they are the slice after it
-written : (qs now items : List Queue) (count q : ℕ) (queue : Queue) → qs ≡ slice_set now q queue → now ≡ items → count ≡ length items → take count (qs ++ drop (length qs) items) ≡ slice_set items q queue
-written qs now items count q queue is same all =
-    let set : qs ≡ slice_set items q queue = is ∙ ap (λ (ps : List Queue). slice_set ps q queue) same in
-    let long : length qs ≡ length items = ap length set ∙ length-set items q queue in
-    ap (λ rest. take count (qs ++ rest)) (drop_all (length qs) items (omega (arith, long)))
-    ∙ (ap (take count) (append-nil qs) ∙ (take_all count qs (omega (arith, long, all)) ∙ set))
-
--- one queue was changed in its place
-pub changes : (change : Queue → Queue) (a : View) (qs now items : List Queue) (count q : ℕ) (old queue : Queue) → q < length a.queues → items ≡ a.queues → old ≡ slice_index_or items q old → queue ≡ change old → qs ≡ slice_set now q queue → now ≡ items → count ≡ length items → take count (qs ++ drop (length qs) items) ≡ with_queue change a.queues q
-changes change a qs now items count q old queue lt same here is set whole all =
-    written qs now items count q queue set whole all
-    ∙ (ap (slice_set items q) is
-    ∙ subst (λ (ps : List Queue). old ≡ slice_index_or ps q old → slice_set ps q (change old) ≡ with_queue change a.queues q) (sym same)
-    (λ at. ap (λ (p : Queue). slice_set a.queues q (change p)) (at ∙ get_or_default a.queues q old unknown lt)) here)
 
 -- ---- of all fronts
 fronts_push : {X : Type 0} (xs : List X) (x : X) → fronts (xs ++ x ∷ []) ≡ fronts xs ++ (xs ++ x ∷ []) ∷ []
@@ -240,3 +226,10 @@ nothing_heard n = low-known (replicate n unheard) ∙ (ap present (known-unheard
 
 pub new_heard : (n : ℕ) (c : View) → c.queues ≡ replicate n unknown → c.low ≡ None → HasHeard c (replicate n unheard)
 new_heard n c is none = record { queues_are = is ∙ sym (known-unheard n); low_is = λ left. none ∙ sym (nothing_heard n) }
+
+-- what is kept besides
+pub new_fits : (n : ℕ) (qs : List Queue) → qs ≡ replicate n unknown → (None ≡ greater None (present qs)) × (n ≡ left_count qs)
+new_fits n qs is = (
+  sym (ap (λ (ps : List Queue). greater None (present ps)) is ∙ ap (greater None) (none_present n)),
+  sym (ap left_count is ∙ (sum_by-replicate (λ (q : Queue). cond (not q.done) 1 0) n unknown ∙ omega arith)),
+)

@@ -1,16 +1,15 @@
-// The coalescer. It keeps of each queue the greatest mark, and how many queues hold the watermark back. Only where none
-// does it look at all queues, for the least of the marks, which is then above the watermark. So a watermark that stays
-// costs the same for every number of queues. Where the least mark falls, since a queue woke up or its first mark is still
-// to come, some queue holds the watermark back, and it stays.
-ghost use Rattle.std.specs.Prelude.{◌≡◌, ◌<◌, ℕ, ℤ, Some, None, true, false, List, [], ◌∷◌, ◌++◌, length, slice_set, replicate, cond, IfOk};
+// The coalescer. It keeps of each queue the greatest mark, and the least of the marks of the queues that count. Where that
+// is above the watermark, the watermark rises to it. Where it falls, since a queue woke up or its first mark is still to
+// come, the watermark stays.
+ghost use Rattle.std.specs.Prelude.{◌≡◌, ◌<◌, ℕ, ℤ, Some, None, true, false, List, [], ◌∷◌, ◌++◌, length, replicate, cond, IfOk};
 ghost use Rattle.jet_coalescer.specs.declared.change.Change.TheVariants as change;
-ghost use Rattle.jet_coalescer.specs.Low.{History, unheard, HasHeard, with_mark, with_done, low, all_done, risen, raised, change_of};
+ghost use Rattle.jet_coalescer.specs.Low.{History, unheard, HasHeard, with_mark, with_done, low, all_done, has_risen, risen, raised, change_of};
 ghost use Rattle.jet_coalescer.specs.Notes.{Note, Marked, Ended, Idled, Woken, low_after, HasNotes};
-ghost use Rattle.jet_coalescer.specs.Queues.{unknown, greater, marked, ended, idled, woken, is_done_at, least_with, present, none_left, PresentIsLeast, RisesToLeast, HoldsNoneBack};
-ghost use Rattle.jet_coalescer.specs.inner.Counts.{holder_count};
+ghost use Rattle.jet_coalescer.specs.Queues.{unknown, greater, marked, ended, idled, woken, is_done_at, present, none_left, PresentIsLeast, RisesToLeast, HoldsNoneBack};
 
 use crate::change::Change;
 use crate::queue::Queue;
+use crate::queues::Queues;
 use jet_items::{Mark, NoMemory};
 use std::alloc::Global;
 use std::marker::Model;
@@ -18,10 +17,8 @@ use std::marker::Model;
 /// The watermark of several queues.
 #[derive(Drop)]
 pub struct Coalescer {
-    queues: Vec<Queue>,
+    queues: Queues,
     low: Option<Mark>,
-    // How many queues hold the watermark back.
-    holders: usize,
     // How many queues are not done.
     left: usize,
 }
@@ -29,14 +26,14 @@ pub struct Coalescer {
 impl Model for Coalescer {
     ghost use Rattle.std.specs.Prelude.{◌≡◌};
     ghost use Rattle.jet_coalescer.specs.Queues.{greater, present};
-    ghost use Rattle.jet_coalescer.specs.inner.Counts.{holder_count, left_count};
+    ghost use Rattle.jet_coalescer.specs.inner.Counts.{left_count};
     ghost use Rattle.jet_coalescer.specs.View.{View};
 
     ghost Value = { View };
 
-    ghost view = { λ c. record { queues = c.queues.items; low = c.low } };
+    ghost view = { λ c. record { queues = c.queues; low = c.low } };
 
-    ghost invariant = { λ c. (c.low ≡ greater c.low (present c.queues.items)) × (c.holders ≡ holder_count c.low c.queues.items) × (c.left ≡ left_count c.queues.items) };
+    ghost invariant = { λ c. (c.low ≡ greater c.low (present c.queues)) × (c.left ≡ left_count c.queues) };
 }
 
 impl Coalescer {
@@ -46,17 +43,10 @@ impl Coalescer {
         ensures heard { IfOk result (λ c. HasHeard c (replicate n unheard)) }
         ensures value { IfOk result (λ c. c ≡ record { queues = replicate n unknown; low = None }) }
     {
-        let unknown = Queue {
-            mark: None,
-            done: false,
-            idle: false,
-        };
-        let mut queues = Vec::new(alloc);
-        queues.resize(n as usize, unknown)?;
+        let queues = Queues::new(alloc, n)?;
         Ok(Coalescer {
             queues,
             low: None,
-            holders: n as usize,
             left: n as usize,
         })
     }
@@ -76,9 +66,9 @@ impl Coalescer {
         ensures least { RisesToLeast self.old.low self.new }
         ensures reaches { HoldsNoneBack self.new }
     {
-        let heard = self.queues[queue as usize].heard(mark);
-        replace(&mut self.queues, &mut self.holders, &self.low, queue, heard);
-        raise(&self.queues, &mut self.low, &mut self.holders)
+        let heard = self.queues.get(queue).heard(mark);
+        self.queues.set(queue, heard);
+        raise(self.queues.present(), &mut self.low)
     }
 
     /// Takes it that a queue is idle, so that the watermark waits for it no more, and answers the new watermark where
@@ -95,10 +85,10 @@ impl Coalescer {
     {
         let idle = Queue {
             idle: true,
-            ..self.queues[queue as usize]
+            ..self.queues.get(queue)
         };
-        replace(&mut self.queues, &mut self.holders, &self.low, queue, idle);
-        raise(&self.queues, &mut self.low, &mut self.holders)
+        self.queues.set(queue, idle);
+        raise(self.queues.present(), &mut self.low)
     }
 
     /// Takes it that a queue is idle no more, and answers the new watermark where there was none or it rose.
@@ -114,10 +104,10 @@ impl Coalescer {
     {
         let awake = Queue {
             idle: false,
-            ..self.queues[queue as usize]
+            ..self.queues.get(queue)
         };
-        replace(&mut self.queues, &mut self.holders, &self.low, queue, awake);
-        raise(&self.queues, &mut self.low, &mut self.holders)
+        self.queues.set(queue, awake);
+        raise(self.queues.present(), &mut self.low)
     }
 
     /// Takes the Done of a queue: from then on the watermark does not wait for it. Answers whether no queue is left,
@@ -137,11 +127,11 @@ impl Coalescer {
     {
         let done = Queue {
             done: true,
-            ..self.queues[queue as usize]
+            ..self.queues.get(queue)
         };
-        replace(&mut self.queues, &mut self.holders, &self.low, queue, done);
+        self.queues.set(queue, done);
         self.left -= 1;
-        let rose = raise(&self.queues, &mut self.low, &mut self.holders);
+        let rose = raise(self.queues.present(), &mut self.low);
         change(self.left == 0, rose)
     }
 
@@ -158,68 +148,26 @@ impl Coalescer {
     }
 }
 
-// Puts a queue in the place of one, and counts it among those that hold the watermark back where it does.
-fn replace(queues: &mut [Queue], holders: &mut usize, low: &Option<Mark>, at: u32, queue: Queue)
-    requires exists { at < length queues.old }
-    requires counted { holders.old ≡ holder_count low.now queues.old }
-    ensures queues { queues.new ≡ slice_set queues.old at queue }
-    ensures counted { holders.new ≡ holder_count low.now queues.new }
-{
-    let place = &mut queues[at as usize];
-    let held = place.holds_back(*low);
-    *place = queue;
-    let holds = place.holds_back(*low);
-    if held && !holds {
-        *holders -= 1;
-    }
-    if holds && !held {
-        *holders += 1;
-    }
-}
-
-// Makes the watermark the greater of it and the present value, and answers it where there was none or it rose.
-fn raise(queues: &[Queue], low: &mut Option<Mark>, holders: &mut usize) -> Option<Mark>
-    requires counted { holders.old ≡ holder_count low.old queues.now }
-    ensures low { low.new ≡ greater low.old (present queues.now) }
+// Makes the watermark the greater of it and this mark, if there is one, and answers it where there was none or it rose.
+fn raise(least: Option<Mark>, low: &mut Option<Mark>) -> Option<Mark>
+    ensures low { low.new ≡ greater low.old least }
     ensures answer { result ≡ risen low.old low.new }
-    ensures counted { holders.new ≡ holder_count low.new queues.now }
 {
-    if *holders > 0 {
+    let least = least?;
+    if !is_above(least, *low) {
         return None;
     }
-    let present = present(queues)?;
-    *low = Some(present);
-    *holders = count_holders(queues, Some(present));
-    Some(present)
+    *low = Some(least);
+    Some(least)
 }
 
-fn count_holders(queues: &[Queue], low: Option<Mark>) -> usize
-    ensures { result ≡ holder_count low queues.now }
+// Whether a watermark that is `low` rises to this mark.
+fn is_above(mark: Mark, low: Option<Mark>) -> bool
+    ensures { result ≡ has_risen low mark }
 {
-    queues.iter().filter(|queue| queue.holds_back(low)).count()
-}
-
-// The least of the greatest marks of the queues that count. None where there is no such queue, or one of them has no
-// mark yet.
-fn present(queues: &[Queue]) -> Option<Mark>
-    ensures { result ≡ present queues.now }
-{
-    let mut least = None;
-    for queue in queues {
-        if queue.counts() {
-            least = Some(lesser(least, queue.mark?));
-        }
-    }
-    least
-}
-
-// The lesser of the least mark so far and one more.
-fn lesser(least: Option<Mark>, t: Mark) -> Mark
-    ensures { Some result ≡ least_with least t }
-{
-    match least {
-        Some(old) if old.t < t.t => old,
-        _ => t,
+    match low {
+        Some(low) => low.t < mark.t,
+        None => true,
     }
 }
 

@@ -10,6 +10,9 @@
 mod change;
 mod coalescer;
 mod queue;
+mod queues;
+mod standing;
+mod tournament;
 
 pub use change::Change;
 pub use coalescer::Coalescer;

@@ -1,9 +1,9 @@
 // What a coalescer keeps of one queue.
 ghost use Rattle.std.specs.Prelude.{◌≡◌, Some};
-ghost use Rattle.jet_coalescer.specs.Low.{has_risen};
 ghost use Rattle.jet_coalescer.specs.Queues.{counts, greatest_with, with_queue_mark};
-ghost use Rattle.jet_coalescer.specs.inner.Counts.{holds_back};
+ghost use Rattle.jet_coalescer.specs.inner.Standings.{standing_of};
 
+use crate::standing::Standing;
 use jet_items::Mark;
 
 /// The greatest mark of a queue, whether its Done came, and whether it is idle.
@@ -22,12 +22,17 @@ impl Queue {
         !self.done && !self.idle
     }
 
-    /// The watermark waits for this queue and has got as far as its mark, or there is none: it cannot rise before this
-    /// queue changes.
-    pub fn holds_back(&self, low: Option<Mark>) -> bool
-        ensures { result ≡ holds_back low self.now }
+    /// What the queue lets the watermark be.
+    pub fn standing(&self) -> Standing
+        ensures { result ≡ standing_of self.now }
     {
-        self.counts() && !self.mark.is_some_and(|mark| is_above(mark, low))
+        if !self.counts() {
+            return Standing::Passes;
+        }
+        match self.mark {
+            Some(mark) => Standing::At(mark),
+            None => Standing::Waits,
+        }
     }
 
     /// The queue after one more mark, which ends its idleness.
@@ -49,15 +54,5 @@ fn greater(mark: Option<Mark>, t: Mark) -> Mark
     match mark {
         Some(old) if t.t < old.t => old,
         _ => t,
-    }
-}
-
-// Whether a watermark that is `low` rises to this mark.
-fn is_above(mark: Mark, low: Option<Mark>) -> bool
-    ensures { result ≡ has_risen low mark }
-{
-    match low {
-        Some(low) => low.t < mark.t,
-        None => true,
     }
 }

@@ -1,6 +1,6 @@
 // A conveyor goes round its queues: from the cursor to the last queue, and then from queue 0 to the cursor. The cursor
 // stands after the queue that was last taken from, and may stand at the number of queues.
-ghost use Rattle.std.specs.Prelude.{◌≡◌, ◌≤◌, ◌<◌, ◌^◌, vec_len};
+ghost use Rattle.std.specs.Prelude.{◌≡◌, ◌≤◌, ◌<◌, ◌-◌, ◌^◌, not, cond, vec_len, count_by};
 
 use jet_items::{Item, NoMemory};
 use jet_ring::{Rx, Tx, refresh};
@@ -21,11 +21,14 @@ pub struct Conveyor {
     queues: Vec<Rx<Item>>,
     // For each queue, whether it gave `Done`.
     closed: Vec<bool>,
+    // How many queues have not given `Done`, so that `all_done` looks at none of them.
+    going: usize,
     // The queue that the next poll looks at first.
     next: usize,
     ghost one_each: { vec_len closed ≡ vec_len queues },
     ghost few: { vec_len queues < 2 ^ 32 },
     ghost inside: { next ≤ vec_len queues },
+    ghost counted: { going ≡ count_by not closed.items },
 }
 
 impl Conveyor {
@@ -44,6 +47,7 @@ impl Conveyor {
     {
         let closed = vec![in alloc; false; queues.len()]?;
         Ok(Conveyor {
+            going: queues.len(),
             queues,
             closed,
             next: 0,
@@ -118,6 +122,7 @@ impl Conveyor {
         let place = queue as usize;
         self.queues[place].skip();
         self.closed[place] = done;
+        self.going = left_going(self.going, done);
         self.next = place + 1;
     }
 
@@ -125,7 +130,7 @@ impl Conveyor {
     pub fn all_done(&self) -> bool
         ensures { IsTrue result ↔ All (λ d. d ≡ true) (view self.now).done }
     {
-        self.closed.iter().all(|d| *d)
+        self.going == 0
     }
 
     /// The number of queues.
@@ -193,4 +198,12 @@ impl Conveyor {
         }
         None
     }
+}
+
+// How many queues are going after an item of one, which ends that queue or not.
+fn left_going(going: usize, done: bool) -> usize
+    requires { 0 < going }
+    ensures { result ≡ cond done (going - 1) going }
+{
+    if done { going - 1 } else { going }
 }

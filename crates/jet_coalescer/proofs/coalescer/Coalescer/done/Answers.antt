@@ -1,26 +1,23 @@
-use Rattle.std.proofs.Common.{rules, refl, ap, ◌∙◌}
+use Rattle.std.proofs.Common.{rules, ap, ◌∙◌}
 use Rattle.jet_coalescer.specs.View.{View}
-use Rattle.jet_coalescer.specs.Queues.{with_queue_done}
 use Rattle.jet_coalescer.specs.inner.Counts.{left_count}
 use Rattle.jet_coalescer.proofs.Bound.{holds_none_back, rises_to_least}
 use Rattle.jet_coalescer.proofs.Counting.{none_left_then}
-use Rattle.jet_coalescer.proofs.Rising.{changes, told_done, heard_done, change_heard}
+use Rattle.jet_coalescer.proofs.Rising.{told_done, heard_done, change_heard}
 use Rattle.jet_coalescer.proofs.coalescer.Coalescer.done.Goals as goal
 
 pub returns-clause-value : goal.returns-clause-value
-returns-clause-value c =
-    changes with_queue_done c.args.self.now c.replace.new.queues c.deref_mut.result.now c.self.inside.queues.items c.self.inside.queues.len c.args.queue c.index.result.now _ c.requires.exists
-    (ap (λ (v : View). v.queues) c.self.view_is) c.index.ensures refl c.replace.ensures.queues c.deref_mut.ensures.value (search rules)
+returns-clause-value c = first_of (search rules, cc)
 
 pub returns-clause-low : goal.returns-clause-low
-returns-clause-low c = search rules
+returns-clause-low c = first_of (search rules, cc)
 
 pub returns-clause-told : goal.returns-clause-told
 returns-clause-told c = λ told h. told_done c.args.self.now _ told c.args.queue c.requires.exists (returns-clause-value c) (returns-clause-low c) h
 
 pub returns-clause-answer : goal.returns-clause-answer
 returns-clause-answer c =
-    let none = none_left_then c.args.self.now _ c.self.inside.left c.args.queue c.requires.exists c.requires.open (c.self.invariant.2 ∙ ap (λ (v : View). left_count v.queues) c.self.view_is) (returns-clause-value c) in
+    let none = none_left_then c.args.self.now _ c.self.inside.left c.args.queue c.requires.exists c.requires.open (c.self.invariant.1 ∙ ap (λ (v : View). left_count v.queues) c.self.view_is) (returns-clause-value c) in
     search (rules, none)
 
 pub returns-clause-heard : goal.returns-clause-heard

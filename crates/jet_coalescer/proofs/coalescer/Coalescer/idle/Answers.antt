@@ -1,17 +1,13 @@
-use Rattle.std.proofs.Common.{rules, refl, true, ap}
-use Rattle.jet_coalescer.specs.View.{View}
-use Rattle.jet_coalescer.specs.Queues.{with_queue_idle}
+use Rattle.std.proofs.Common.{rules}
 use Rattle.jet_coalescer.proofs.Bound.{holds_none_back, rises_to_least}
-use Rattle.jet_coalescer.proofs.Rising.{changes, told_idle}
+use Rattle.jet_coalescer.proofs.Rising.{told_idle}
 use Rattle.jet_coalescer.proofs.coalescer.Coalescer.idle.Goals as goal
 
 pub returns-clause-value : goal.returns-clause-value
-returns-clause-value c =
-    changes (with_queue_idle true) c.args.self.now c.replace.new.queues c.deref_mut.result.now c.self.inside.queues.items c.self.inside.queues.len c.args.queue c.index.result.now _ c.requires.exists
-    (ap (λ (v : View). v.queues) c.self.view_is) c.index.ensures refl c.replace.ensures.queues c.deref_mut.ensures.value (search rules)
+returns-clause-value c = first_of (search rules, cc)
 
 pub returns-clause-low : goal.returns-clause-low
-returns-clause-low c = search rules
+returns-clause-low c = first_of (search rules, cc)
 
 pub returns-clause-told : goal.returns-clause-told
 returns-clause-told c = λ told h. told_idle c.args.self.now _ told c.args.queue c.requires.exists (returns-clause-value c) (returns-clause-low c) h

@@ -6,6 +6,7 @@ use Rattle.jet_ring.specs.declared.ends.Rx.{Rx}
 use Rattle.jet_ring.specs.Ring as ring
 use Rattle.jet_ring.proofs.Lists.{within_map, at_map, map_kept, map_changed, at_same, at_other, prefix_between}
 use Rattle.jet_conveyor.specs.Conveyor.{view, known_at}
+use Rattle.jet_conveyor.proofs.Going.{some_going, left_counted}
 use Rattle.jet_conveyor.proofs.Views.{same_head, has_queue, inside_received, inside_done, sees_took, closed_took}
 use Rattle.jet_conveyor.proofs.conveyor.Conveyor.skip.Goals as goal
 
@@ -41,3 +42,11 @@ returns-clause-closed c =
     closed_took (view c.args.self.now) _ c.args.queue c.front.result.now (returns-clause-taken c c.front.result.now c.front.ensures)
     (inside_received c.args.self.now c.args.queue (has_queue c.args.self.now c.args.queue c.requires))
     (inside_done c.args.self.now c.args.queue (has_queue c.args.self.now c.args.queue c.requires))
+
+pub left_going-self-requires : goal.left_going-self-requires
+left_going-self-requires c =
+    some_going c.args.self.now.closed.items c.args.queue c.args.self.now.going (inside_done c.args.self.now c.args.queue (has_queue c.args.self.now c.args.queue c.requires)) c.requires.is_open c.args.self.now.counted
+
+pub invariant_of-self-clause-counted : goal.invariant_of-self-clause-counted
+invariant_of-self-clause-counted c =
+    left_counted c.args.self.now.closed.items c.args.queue c.is_done-done.result c.args.self.now.going c.left_going-self.result (inside_done c.args.self.now c.args.queue (has_queue c.args.self.now c.args.queue c.requires)) c.requires.is_open c.args.self.now.counted c.left_going-self.ensures
