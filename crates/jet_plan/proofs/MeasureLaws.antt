@@ -10,7 +10,7 @@ use Rattle.jet_plan.specs.declared.edge.Edge.{Edge}
 use Rattle.jet_plan.specs.declared.mode.ModeSpec.TheVariants.{Inner, Left}
 use Rattle.jet_plan.specs.declared.vertex.Vertex.{Vertex}
 use Rattle.jet_plan.specs.declared.kind.Kind.{Kind}
-use Rattle.jet_plan.specs.declared.kind.Kind.TheVariants.{Source, Side, Map, Filter, Flat, Join, Accumulate, Combine, Sink}
+use Rattle.jet_plan.specs.declared.kind.Kind.TheVariants.{Source, Side, Flat, Join, Combine, Sink}
 use Rattle.jet_plan.specs.declared.measure.Measure.{Measure}
 use Rattle.jet_plan.specs.declared.measure.Measure.TheVariants.{LongestKey, Growth}
 use Rattle.jet_plan.specs.Graph.{edges_into}
@@ -43,14 +43,9 @@ longest_cap (Source files lag) n m e = refl
 longest_cap (Flat legs) n m e = omega arith
 longest_cap (Join Inner true fields) n m e = refl
 longest_cap (Join Left true fields) n m e = omega arith
-longest_cap (Join Inner false fields) n m e = e
-longest_cap (Join Left false fields) n m e = e
 longest_cap (Side file) n m e = refl
 longest_cap Sink n m e = refl
-longest_cap (Map set) n m e = e
-longest_cap (Filter test) n m e = e
-longest_cap (Accumulate size slide) n m e = e
-longest_cap Combine n m e = e
+longest_cap kind n m e = e
 
 -- ---- events
 
@@ -100,10 +95,8 @@ growth_cap (Flat legs) n m e = cap_times (length legs) n m e
 growth_cap (Join mode rekey fields) n m e = cap_times 16 n m e
 growth_cap (Side file) n m e = refl
 growth_cap Sink n m e = refl
-growth_cap (Map set) n m e = e
-growth_cap (Filter test) n m e = e
-growth_cap (Accumulate size slide) n m e = e
 growth_cap Combine n m e = refl
+growth_cap kind n m e = e
 
 pub growth_of_capped : (kind : Kind) (xs : List ℕ) → cap (growth_after kind (capped_sum xs)) ≡ cap (growth_after kind (sum xs))
 growth_of_capped kind xs = growth_cap kind (capped_sum xs) (sum xs) (ap cap (capped_sum_is xs) ∙ cap_cap (sum xs))

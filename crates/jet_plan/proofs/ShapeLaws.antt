@@ -14,7 +14,7 @@ use Rattle.std.proofs.lemmas.Slice.Eq.{bytes_eq-Decides}
 use Rattle.jet_plan.specs.declared.edge.Edge.{Edge}
 use Rattle.jet_plan.specs.declared.vertex.Vertex.{Vertex}
 use Rattle.jet_plan.specs.declared.kind.Kind.{Kind}
-use Rattle.jet_plan.specs.declared.kind.Kind.TheVariants.{Source, Side, Map, Filter, Flat, Join, Accumulate, Combine, Sink}
+use Rattle.jet_plan.specs.declared.kind.Kind.TheVariants.{Source, Side, Join, Accumulate, Combine, Sink}
 use Rattle.jet_plan.specs.declared.dag.Dag.{Dag}
 use Rattle.jet_plan.specs.declared.settings.Settings.{Settings}
 use Rattle.jet_plan.specs.declared.setting_name.SettingName.TheVariants.{Members}
@@ -154,73 +154,42 @@ no_build : (m : ℕ) (b : Bool) → (b && m == 0) ≡ true → 0 < m → ⊥
 no_build m b h more = let e = is_equal m 0 (both b (m == 0) h).1 in omega (arith, e, more)
 
 join_inputs : (k : Kind) (n m : ℕ) → may_have_inputs k n m ≡ true → is_join k ≡ true → (m ≡ 1) × (0 < n)
-join_inputs (Source files lag) n m h is = absurd (cc is)
-join_inputs (Side file) n m h is = absurd (cc is)
-join_inputs (Map set) n m h is = absurd (cc is)
-join_inputs (Filter test) n m h is = absurd (cc is)
-join_inputs (Flat legs) n m h is = absurd (cc is)
 join_inputs (Join mode rekey fields) n m h is = one_build m n h
-join_inputs (Accumulate size slide) n m h is = absurd (cc is)
-join_inputs Combine n m h is = absurd (cc is)
-join_inputs Sink n m h is = absurd (cc is)
+join_inputs kind n m h is = absurd (cc is)
 
 combine_inputs : (k : Kind) (n m : ℕ) → may_have_inputs k n m ≡ true → is_combine k ≡ true → (n ≡ 1) × (m ≡ 0)
-combine_inputs (Source files lag) n m h is = absurd (cc is)
-combine_inputs (Side file) n m h is = absurd (cc is)
-combine_inputs (Map set) n m h is = absurd (cc is)
-combine_inputs (Filter test) n m h is = absurd (cc is)
-combine_inputs (Flat legs) n m h is = absurd (cc is)
-combine_inputs (Join mode rekey fields) n m h is = absurd (cc is)
-combine_inputs (Accumulate size slide) n m h is = absurd (cc is)
 combine_inputs Combine n m h is = let parts = both (n == 1) (m == 0) h in (is_equal n 1 parts.0, is_equal m 0 parts.1)
-combine_inputs Sink n m h is = absurd (cc is)
+combine_inputs kind n m h is = absurd (cc is)
 
 join_by_build : (k : Kind) (n m : ℕ) → may_have_inputs k n m ≡ true → 0 < m → is_join k ≡ true
 join_by_build (Source files lag) n m h more = absurd (no_build m (n == 0) h more)
 join_by_build (Side file) n m h more = absurd (no_build m (n == 0) h more)
-join_by_build (Map set) n m h more = absurd (no_build m (nat_lt 0 n) h more)
-join_by_build (Filter test) n m h more = absurd (no_build m (nat_lt 0 n) h more)
-join_by_build (Flat legs) n m h more = absurd (no_build m (nat_lt 0 n) h more)
 join_by_build (Join mode rekey fields) n m h more = refl
-join_by_build (Accumulate size slide) n m h more = absurd (no_build m (nat_lt 0 n) h more)
 join_by_build Combine n m h more = absurd (no_build m (n == 1) h more)
-join_by_build Sink n m h more = absurd (no_build m (nat_lt 0 n) h more)
+join_by_build kind n m h more = absurd (no_build m (nat_lt 0 n) h more)
 
 one_is_more : (n : ℕ) → (n == 1) ≡ true → 0 < n
 one_is_more n h = let e = is_equal n 1 h in omega (arith, e)
 
 has_output : (k : Kind) (n : ℕ) → may_have_outputs k n ≡ true → is_sink k ≡ false → 0 < n
-has_output (Source files lag) n h is = is_less 0 n h
-has_output (Side file) n h is = is_less 0 n h
-has_output (Map set) n h is = is_less 0 n h
-has_output (Filter test) n h is = is_less 0 n h
-has_output (Flat legs) n h is = is_less 0 n h
-has_output (Join mode rekey fields) n h is = is_less 0 n h
 has_output (Accumulate size slide) n h is = one_is_more n h
 has_output Combine n h is = one_is_more n h
 has_output Sink n h is = absurd (cc is)
+has_output kind n h is = is_less 0 n h
 
 sends : (k : Kind) (n : ℕ) → may_have_outputs k n ≡ true → 0 < n → is_side k ≡ false → is_accumulate k ≡ false → is_combine k ≡ false → sends_events k ≡ true
-sends (Source files lag) n h more side gathers rows = refl
 sends (Side file) n h more side gathers rows = absurd (cc side)
-sends (Map set) n h more side gathers rows = refl
-sends (Filter test) n h more side gathers rows = refl
-sends (Flat legs) n h more side gathers rows = refl
-sends (Join mode rekey fields) n h more side gathers rows = refl
 sends (Accumulate size slide) n h more side gathers rows = absurd (cc gathers)
 sends Combine n h more side gathers rows = absurd (cc rows)
 sends Sink n h more side gathers rows = let e = is_equal n 0 h in absurd (omega (arith, e, more))
+sends kind n h more side gathers rows = refl
 
 takes : (k : Kind) → takes_events k ≡ true → (is_combine k ≡ false) × (is_sink k ≡ false)
 takes (Source files lag) h = absurd (cc h)
 takes (Side file) h = absurd (cc h)
-takes (Map set) h = (refl, refl)
-takes (Filter test) h = (refl, refl)
-takes (Flat legs) h = (refl, refl)
-takes (Join mode rekey fields) h = (refl, refl)
-takes (Accumulate size slide) h = (refl, refl)
 takes Combine h = absurd (cc h)
 takes Sink h = absurd (cc h)
+takes kind h = (refl, refl)
 
 -- ---- a job without a fault
 

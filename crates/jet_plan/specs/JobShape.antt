@@ -4,7 +4,7 @@ use Rattle.std.specs.List.{list_any, Contains, AllPairs}
 use Rattle.jet_plan.specs.declared.edge.Edge.{Edge}
 use Rattle.jet_plan.specs.declared.vertex.Vertex.{Vertex}
 use Rattle.jet_plan.specs.declared.kind.Kind.{Kind}
-use Rattle.jet_plan.specs.declared.kind.Kind.TheVariants.{Source, Side, Map, Filter, Flat, Join, Accumulate, Combine, Sink}
+use Rattle.jet_plan.specs.declared.kind.Kind.TheVariants.{Source, Side, Accumulate, Combine, Sink}
 use Rattle.jet_plan.specs.declared.dag.Dag.{Dag}
 use Rattle.jet_plan.specs.declared.settings.Settings.{Settings}
 use Rattle.jet_plan.specs.Along.{has_walk}
@@ -15,27 +15,19 @@ use Rattle.jet_plan.specs.Rings.{members}
 
 -- a vertex that sends events
 abbrev pub sends_events : Kind → Bool
-sends_events (Source files lag) = true
 sends_events (Side file) = false
-sends_events (Map set) = true
-sends_events (Filter test) = true
-sends_events (Flat legs) = true
-sends_events (Join mode rekey fields) = true
 sends_events (Accumulate size slide) = false
 sends_events Combine = false
 sends_events Sink = false
+sends_events _ = true
 
 -- a vertex that takes events
 abbrev pub takes_events : Kind → Bool
 takes_events (Source files lag) = false
 takes_events (Side file) = false
-takes_events (Map set) = true
-takes_events (Filter test) = true
-takes_events (Flat legs) = true
-takes_events (Join mode rekey fields) = true
-takes_events (Accumulate size slide) = true
 takes_events Combine = false
 takes_events Sink = false
+takes_events _ = true
 
 -- the edge leads from the vertex u to the vertex v
 pub record Leads (dag : Dag) (e : Edge) (u v : Vertex) : Type 0 where

@@ -22,3 +22,4 @@ pub mod SettingRanges
 pub mod Sizes
 pub mod Tables
 pub mod Texts
+pub mod Roles

@@ -8,7 +8,7 @@ use crate::names::vertex_named;
 use crate::{Edge, Route, Vertex};
 
 /// What an edge is made of: rings between instances, and links between members.
-#[derive(Clone, Copy, Debug, PartialEq, Eq)]
+#[derive(Clone, Copy)]
 pub struct EdgeCount {
     /// The rings between instances, into senders and out of receivers. Those of a link itself are not counted.
     pub rings: u64,

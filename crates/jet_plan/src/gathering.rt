@@ -4,7 +4,8 @@ ghost use Rattle.std.specs.List.{list_any};
 ghost use Rattle.jet_plan.specs.Kinds.{is_partitioned};
 ghost use Rattle.jet_plan.specs.Gathering.{is_isolated_distributed, broadcasts_events, meets_partitions, crosses_members, is_not_gathered};
 
-use crate::names::{at_combine, at_join, at_sink};
+use crate::names::is_at;
+use crate::role::Role;
 use crate::{Dag, Edge, Settings};
 use jet_items::Key;
 
@@ -47,19 +48,24 @@ fn has_partitioned_build(edges: &[Edge], to: &Key) -> bool
 fn meets_partitions(dag: &Dag, edge: &Edge) -> bool
     ensures { result ≡ meets_partitions dag.now edge.now }
 {
-    !edge.build && at_join(dag, &edge.to) && has_partitioned_build(dag.edges.items(), &edge.to)
+    !edge.build
+        && is_at(dag, &edge.to, Role::Join)
+        && has_partitioned_build(dag.edges.items(), &edge.to)
 }
 
 fn crosses_members(dag: &Dag, edge: &Edge) -> bool
     ensures { result ≡ crosses_members dag.now edge.now }
 {
-    at_combine(dag, &edge.to) || at_sink(dag, &edge.to) || edge.build || meets_partitions(dag, edge)
+    is_at(dag, &edge.to, Role::Combine)
+        || is_at(dag, &edge.to, Role::Sink)
+        || edge.build
+        || meets_partitions(dag, edge)
 }
 
 fn is_not_gathered(dag: &Dag, settings: &Settings, edge: &Edge) -> bool
     ensures { result ≡ is_not_gathered dag.now settings.now edge.now }
 {
-    (at_combine(dag, &edge.to) && !edge.route.is_partitioned())
+    (is_at(dag, &edge.to, Role::Combine) && !edge.route.is_partitioned())
         || (edge.build && !(edge.route.is_broadcast() || edge.route.is_partitioned()))
         || (meets_partitions(dag, edge) && !edge.route.is_partitioned())
         || (settings.members > 1 && !edge.distributed && crosses_members(dag, edge))

@@ -50,8 +50,8 @@ pub enum Kind {
 }
 
 impl Kind {
-    /// Whether it is a source with a file.
-    pub fn is_fed(&self) -> bool
+    // Whether it is a source with a file.
+    pub(crate) fn is_fed(&self) -> bool
         ensures { result ≡ is_fed self.now }
     {
         match self {
@@ -60,43 +60,43 @@ impl Kind {
         }
     }
 
-    /// Whether it reads a side file.
-    pub fn is_side(&self) -> bool
+    // Whether it reads a side file.
+    pub(crate) fn is_side(&self) -> bool
         ensures { result ≡ is_side self.now }
     {
         matches!(self, Kind::Side { .. })
     }
 
-    /// Whether it is a join.
-    pub fn is_join(&self) -> bool
+    // Whether it is a join.
+    pub(crate) fn is_join(&self) -> bool
         ensures { result ≡ is_join self.now }
     {
         matches!(self, Kind::Join { .. })
     }
 
-    /// Whether it gathers frames.
-    pub fn is_accumulate(&self) -> bool
+    // Whether it gathers frames.
+    pub(crate) fn is_accumulate(&self) -> bool
         ensures { result ≡ is_accumulate self.now }
     {
         matches!(self, Kind::Accumulate { .. })
     }
 
-    /// Whether it makes rows.
-    pub fn is_combine(&self) -> bool
+    // Whether it makes rows.
+    pub(crate) fn is_combine(&self) -> bool
         ensures { result ≡ is_combine self.now }
     {
         matches!(self, Kind::Combine)
     }
 
-    /// Whether it is the sink.
-    pub fn is_sink(&self) -> bool
+    // Whether it is the sink.
+    pub(crate) fn is_sink(&self) -> bool
         ensures { result ≡ is_sink self.now }
     {
         matches!(self, Kind::Sink)
     }
 
-    /// How many files it reads.
-    pub fn file_count(&self) -> usize
+    // How many files it reads.
+    pub(crate) fn file_count(&self) -> usize
         ensures { result ≡ file_count self.now }
     {
         match self {
@@ -106,8 +106,8 @@ impl Kind {
         }
     }
 
-    /// The word for it in a job file.
-    pub fn word(&self) -> &'static str
+    // The word for it in a job file.
+    pub(crate) fn word(&self) -> &'static str
         ensures { result.now ≡ kind_word self.now }
     {
         match self {

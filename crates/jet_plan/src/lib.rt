@@ -27,6 +27,7 @@ mod numbers;
 mod paths;
 mod plan;
 mod print;
+mod role;
 mod route;
 mod setting_name;
 mod setting_ranges;

@@ -12,7 +12,7 @@ use jet_items::{Key, NoMemory};
 use std::alloc::{AllocError, Global};
 
 /// What is computed for each vertex from the vertices before it.
-#[derive(Clone, Copy, Debug, PartialEq, Eq)]
+#[derive(Clone, Copy)]
 pub enum Measure {
     /// The longest key that can leave it, in bytes.
     LongestKey,

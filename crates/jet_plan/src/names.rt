@@ -1,10 +1,11 @@
 // Vertices by their names.
 ghost use Rattle.std.specs.Prelude.{◌≡◌, ◌<◌, ◌&&◌, length, position, IfSome, option_map, find};
 ghost use Rattle.std.specs.List.{list_any};
-ghost use Rattle.jet_plan.specs.Kinds.{is_join, is_accumulate, is_combine, is_sink};
 ghost use Rattle.jet_plan.specs.Names.{has_name, is_double, first_double, has_unknown_end, end_is};
+ghost use Rattle.jet_plan.specs.Roles.{has_role};
 
-use crate::{Dag, Edge, Vertex};
+use crate::role::Role;
+use crate::{Dag, Edge, Kind, Vertex};
 use jet_items::Key;
 
 /// The number of the vertex of this name.
@@ -59,58 +60,29 @@ pub fn first_unknown(vertices: &[Vertex], edges: &[Edge]) -> Option<usize>
     edges.iter().position(|e| has_unknown_end(vertices, e))
 }
 
-fn is_join_named(vertices: &[Vertex], name: &Key) -> bool
-    ensures { result ≡ list_any (λ v. has_name name.now v && is_join v.kind) vertices.now }
+// Whether the kind is that of this role.
+fn has_role(kind: &Kind, role: Role) -> bool
+    ensures { result ≡ has_role role kind.now }
 {
-    vertices.iter().any(|v| v.name == *name && v.kind.is_join())
+    match role {
+        Role::Join => kind.is_join(),
+        Role::Accumulate => kind.is_accumulate(),
+        Role::Combine => kind.is_combine(),
+        Role::Sink => kind.is_sink(),
+    }
 }
 
-fn is_accumulate_named(vertices: &[Vertex], name: &Key) -> bool
-    ensures { result ≡ list_any (λ v. has_name name.now v && is_accumulate v.kind) vertices.now }
+fn is_named_with(vertices: &[Vertex], name: &Key, role: Role) -> bool
+    ensures { result ≡ list_any (λ v. has_name name.now v && has_role role v.kind) vertices.now }
 {
     vertices
         .iter()
-        .any(|v| v.name == *name && v.kind.is_accumulate())
+        .any(|v| v.name == *name && has_role(&v.kind, role))
 }
 
-fn is_combine_named(vertices: &[Vertex], name: &Key) -> bool
-    ensures { result ≡ list_any (λ v. has_name name.now v && is_combine v.kind) vertices.now }
+/// Whether the vertex of this name has this role.
+pub fn is_at(dag: &Dag, name: &Key, role: Role) -> bool
+    ensures { result ≡ end_is dag.now (has_role role) name.now }
 {
-    vertices
-        .iter()
-        .any(|v| v.name == *name && v.kind.is_combine())
-}
-
-fn is_sink_named(vertices: &[Vertex], name: &Key) -> bool
-    ensures { result ≡ list_any (λ v. has_name name.now v && is_sink v.kind) vertices.now }
-{
-    vertices.iter().any(|v| v.name == *name && v.kind.is_sink())
-}
-
-/// Whether the vertex of this name is a join.
-pub fn at_join(dag: &Dag, name: &Key) -> bool
-    ensures { result ≡ end_is dag.now is_join name.now }
-{
-    is_join_named(dag.vertices.items(), name)
-}
-
-/// Whether the vertex of this name is an accumulate vertex.
-pub fn at_accumulate(dag: &Dag, name: &Key) -> bool
-    ensures { result ≡ end_is dag.now is_accumulate name.now }
-{
-    is_accumulate_named(dag.vertices.items(), name)
-}
-
-/// Whether the vertex of this name is a combine vertex.
-pub fn at_combine(dag: &Dag, name: &Key) -> bool
-    ensures { result ≡ end_is dag.now is_combine name.now }
-{
-    is_combine_named(dag.vertices.items(), name)
-}
-
-/// Whether the vertex of this name is a sink.
-pub fn at_sink(dag: &Dag, name: &Key) -> bool
-    ensures { result ≡ end_is dag.now is_sink name.now }
-{
-    is_sink_named(dag.vertices.items(), name)
+    is_named_with(dag.vertices.items(), name, role)
 }

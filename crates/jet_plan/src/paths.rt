@@ -2,16 +2,17 @@
 ghost use Rattle.std.specs.Prelude.{◌≡◌, ◌<◌, not, length, position, IfSome, if◌then◌else◌};
 ghost use Rattle.jet_plan.specs.Paths.{leaves_window_path, mixes_sides};
 
-use crate::names::{at_accumulate, at_combine, at_sink};
+use crate::names::is_at;
+use crate::role::Role;
 use crate::{Dag, Edge, Vertex};
 
 fn leaves_window_path(dag: &Dag, edge: &Edge) -> bool
     ensures { result ≡ leaves_window_path dag.now edge.now }
 {
-    (at_sink(dag, &edge.to) && !at_combine(dag, &edge.from))
-        || (at_accumulate(dag, &edge.from) && !at_combine(dag, &edge.to))
-        || (at_combine(dag, &edge.to) && !at_accumulate(dag, &edge.from))
-        || (at_combine(dag, &edge.from) && !at_sink(dag, &edge.to))
+    (is_at(dag, &edge.to, Role::Sink) && !is_at(dag, &edge.from, Role::Combine))
+        || (is_at(dag, &edge.from, Role::Accumulate) && !is_at(dag, &edge.to, Role::Combine))
+        || (is_at(dag, &edge.to, Role::Combine) && !is_at(dag, &edge.from, Role::Accumulate))
+        || (is_at(dag, &edge.from, Role::Combine) && !is_at(dag, &edge.to, Role::Sink))
 }
 
 /// The number of the first edge that leaves the path of a window.

@@ -16,29 +16,29 @@ pub enum Route {
 }
 
 impl Route {
-    /// Whether a producer always gives to the same consumer.
-    pub fn is_isolated(self) -> bool
+    // Whether a producer always gives to the same consumer.
+    pub(crate) fn is_isolated(self) -> bool
         ensures { result ≡ is_isolated self }
     {
         matches!(self, Route::Isolated)
     }
 
-    /// Whether items with the same key go to the same consumer.
-    pub fn is_partitioned(self) -> bool
+    // Whether items with the same key go to the same consumer.
+    pub(crate) fn is_partitioned(self) -> bool
         ensures { result ≡ is_partitioned self }
     {
         matches!(self, Route::Partitioned)
     }
 
-    /// Whether every consumer takes each item.
-    pub fn is_broadcast(self) -> bool
+    // Whether every consumer takes each item.
+    pub(crate) fn is_broadcast(self) -> bool
         ensures { result ≡ is_broadcast self }
     {
         matches!(self, Route::Broadcast)
     }
 
-    /// The word for it in a job file.
-    pub fn word(self) -> &'static str
+    // The word for it in a job file.
+    pub(crate) fn word(self) -> &'static str
         ensures { result.now ≡ route_word self }
     {
         match self {

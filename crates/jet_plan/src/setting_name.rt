@@ -11,7 +11,7 @@ pub enum SettingName {
     Ring,
     /// Bytes of a packet.
     Packet,
-    /// Bytes that a link may send and not yet have acknowledged, at the least.
+    /// The first and the least grant of a link in bytes.
     Window,
     /// Turns of a worker in an epoch.
     Turns,
@@ -19,9 +19,9 @@ pub enum SettingName {
     Ahead,
     /// Lines of a file.
     Lines,
-    /// Bytes that a link may send and not yet have acknowledged, at the most.
+    /// The greatest grant of a link in bytes.
     Peak,
-    /// How many times what was processed in a period may be sent in the next.
+    /// How many times what was processed in a period is granted in the next.
     Multiplier,
     /// Turns of a receiver in a period.
     Period,

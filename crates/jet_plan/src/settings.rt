@@ -12,7 +12,8 @@ pub struct Settings {
     pub ring: i64,
     /// Bytes of a packet at most, 256 to 65536.
     pub packet: i64,
-    /// Bytes that a link may send and not yet have acknowledged, at first and at the least, 1 to 16777216.
+    /// The first and the least grant of a link in bytes, 1 to 16777216. A packet may begin while the bytes sent and not yet
+    /// acknowledged are fewer than the grant, so that the last one may reach beyond it.
     pub window: i64,
     /// Turns of a worker in an epoch, 1 to 1024.
     pub turns: i64,
@@ -20,9 +21,10 @@ pub struct Settings {
     pub ahead: i64,
     /// Lines of a file at most, 1 to 4294967294: the number of a line, and of the one behind the last, is a `u32`.
     pub lines: i64,
-    /// Bytes that a link may send and not yet have acknowledged at the most, `window` to 16777216.
+    /// The greatest grant of a link in bytes, `window` to 16777216. On the way are at most so many and those of one packet.
     pub peak: i64,
-    /// How many times what a receiver has processed in a period its sender may send in the next, 1 to 16.
+    /// How many times the bytes that a receiver processed in a period it grants in the next, as far as that lies between
+    /// `window` and `peak`, 1 to 16.
     pub multiplier: i64,
     /// Turns of a receiver after which what it grants is set anew, 1 to 1024.
     pub period: i64,
