@@ -155,6 +155,7 @@ gave_all (any.Flat t) came given o = o.0.gave
 gave_all (any.Join t) came given o = o.0.gave
 gave_all (any.Frame t) came given o = o.0.gave
 gave_all (any.Combine t) came given o = o.0.gave
+gave_all t came given o = absurd o
 
 pub ended : FramesSumKept → (t : AnyTasklet) (came : List Arrival) (given : List Item) → AnyOver t came given → EndedByKind t given
 ended law (any.Stamp t) came given o = stamp_ended (inputs_view t.inputs.items) (outputs_view t.outputs.items) (told_of t came) given o.0
@@ -164,3 +165,4 @@ ended law (any.Flat t) came given o = stage_ended (flat_map (legs_give t.process
 ended law (any.Join t) came given o = λ none. join_ended (setting_of t.processor) (inputs_view t.inputs.items) (outputs_view t.outputs.items) (told_of t came) given o.0 none
 ended law (any.Frame t) came given o = λ none. frame_ended law t.processor.vertex t.processor.times.policy.slide t.processor.times.begun (map (frame_of t.processor.vertex) (held_by t.processor)) (inputs_view t.inputs.items) (outputs_view t.outputs.items) (told_of t came) given o.0 none
 ended law (any.Combine t) came given o = λ closed none. combine_ended t.processor.vertex t.processor.policy.size t.processor.policy.slide t.processor.begun t.processor.last t.processor.start.items (held_frames t.processor) (inputs_view t.inputs.items) (outputs_view t.outputs.items) (told_of t came) given o.0 closed none
+ended law t came given o = absurd o

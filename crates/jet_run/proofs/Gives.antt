@@ -34,7 +34,7 @@ use Rattle.jet_tasklet.specs.declared.arrival.Arrival.{Arrival}
 use Rattle.jet_tasklet.specs.Any.{AnyKeeps}
 use Rattle.jet_tasklet.specs.AnyOver.{AnySoFar}
 use Rattle.jet_tasklet.specs.Inputs.{InputView, inputs_view}
-use Rattle.jet_tasklet.specs.Kinds.{outputs_of}
+use Rattle.jet_tasklet.specs.Kinds.{outputs_of, RunsProcessor}
 use Rattle.jet_tasklet.specs.Merging.{data_received}
 use Rattle.jet_tasklet.specs.Outputs.{Giving, outputs_view}
 use Rattle.jet_tasklet.specs.Over.{told_of, IsTold, SoFar}
@@ -117,20 +117,21 @@ stamp_gives inputs told given so_far =
     (λ taken entry more given parts h. stamp_part inputs told (taken ++ entry ∷ []) more given h.held so_far.told (one_more told taken entry more parts) h.bag)
     (λ given h. record { events = sub_done as_event refl (events_of (all_data inputs)) given h.events; others = sub_done as_other refl (others_of (but_idle (all_data inputs))) given h.others }) so_far
 
-pub gives : (t : AnyTasklet) (came : List Arrival) (gave : List Item) → AnySoFar t came gave → GivesByKind t (gave ++ waiting t)
-gives (any.Stamp t) came gave s = stamp_gives (inputs_view t.inputs.items) (told_of t came) (gave ++ t.outbox.items) s
-gives (any.Map t) came gave s =
+pub gives : (t : AnyTasklet) (came : List Arrival) (gave : List Item) → RunsProcessor t → AnySoFar t came gave → GivesByKind t (gave ++ waiting t)
+gives (any.Stamp t) came gave runs s = stamp_gives (inputs_view t.inputs.items) (told_of t came) (gave ++ t.outbox.items) s
+gives (any.Map t) came gave runs s =
     stage_gives (map (mapped t.processor.set)) (StageBag (map (mapped t.processor.set))) (λ taken entry given. StageBag (map (mapped t.processor.set)) taken given) (spread_map (mapped t.processor.set)) (λ taken given h. h) (λ taken entry given h. inr h)
     (inputs_view t.inputs.items) (told_of t came) (gave ++ t.outbox.items) s
-gives (any.Filter t) came gave s =
+gives (any.Filter t) came gave runs s =
     stage_gives (filter (passes t.processor.test)) (StageBag (filter (passes t.processor.test))) (λ taken entry given. StageBag (filter (passes t.processor.test)) taken given) (spread_filter (passes t.processor.test)) (λ taken given h. h) (λ taken entry given h. inr h)
     (inputs_view t.inputs.items) (told_of t came) (gave ++ t.outbox.items) s
-gives (any.Flat t) came gave s =
+gives (any.Flat t) came gave runs s =
     stage_gives (flat_map (legs_give t.processor.legs.items)) (StageBag (flat_map (legs_give t.processor.legs.items))) (FlatBagAmid (flat_map (legs_give t.processor.legs.items))) (spread_flat (legs_give t.processor.legs.items)) (λ taken given h. h) (λ taken entry given h. inl (h.held, h.bag))
     (inputs_view t.inputs.items) (told_of t came) (gave ++ t.outbox.items) s
-gives (any.Join t) came gave s = λ rows none whole. join_gives (setting_of t.processor) rows (inputs_view t.inputs.items) (told_of t came) (gave ++ t.outbox.items) s none whole
-gives (any.Frame t) came gave s = frame_gives t.processor.vertex t.processor.times.policy.slide t.processor.times.begun (map (frame_of t.processor.vertex) (held_by t.processor)) (inputs_view t.inputs.items) (told_of t came) (gave ++ t.outbox.items) s
-gives (any.Combine t) came gave s = combine_gives t.processor.vertex t.processor.policy.size t.processor.policy.slide t.processor.begun t.processor.last t.processor.start.items (held_frames t.processor) (inputs_view t.inputs.items) (told_of t came) (gave ++ t.outbox.items) s
+gives (any.Join t) came gave runs s = λ rows none whole. join_gives (setting_of t.processor) rows (inputs_view t.inputs.items) (told_of t came) (gave ++ t.outbox.items) s none whole
+gives (any.Frame t) came gave runs s = frame_gives t.processor.vertex t.processor.times.policy.slide t.processor.times.begun (map (frame_of t.processor.vertex) (held_by t.processor)) (inputs_view t.inputs.items) (told_of t came) (gave ++ t.outbox.items) s
+gives (any.Combine t) came gave runs s = combine_gives t.processor.vertex t.processor.policy.size t.processor.policy.slide t.processor.begun t.processor.last t.processor.start.items (held_frames t.processor) (inputs_view t.inputs.items) (told_of t came) (gave ++ t.outbox.items) s
+gives t came gave runs s = absurd runs
 
 -- ---- what was sent to a destination is a part of what was given
 weigh_if : (w : Item → ℕ) (b : Bool) (x : Item) (xs : List Item) → sum_by w (cond b (x ∷ []) [] ++ xs) ≤ w x + sum_by w xs
@@ -198,26 +199,28 @@ load_passing most = record {
   front = λ xs ys h. omega (arith, load_two xs ys, h);
 }
 
-given_passing : (t : AnyTasklet) → Passing (GivesByKind t)
-given_passing (any.Stamp t) = stamp_passing (inputs_view t.inputs.items)
-given_passing (any.Map t) = stage_passing (map (mapped t.processor.set)) (inputs_view t.inputs.items)
-given_passing (any.Filter t) = stage_passing (filter (passes t.processor.test)) (inputs_view t.inputs.items)
-given_passing (any.Flat t) = stage_passing (flat_map (legs_give t.processor.legs.items)) (inputs_view t.inputs.items)
-given_passing (any.Join t) = record {
+given_passing : (t : AnyTasklet) → RunsProcessor t → Passing (GivesByKind t)
+given_passing (any.Stamp t) runs = stamp_passing (inputs_view t.inputs.items)
+given_passing (any.Map t) runs = stage_passing (map (mapped t.processor.set)) (inputs_view t.inputs.items)
+given_passing (any.Filter t) runs = stage_passing (filter (passes t.processor.test)) (inputs_view t.inputs.items)
+given_passing (any.Flat t) runs = stage_passing (flat_map (legs_give t.processor.legs.items)) (inputs_view t.inputs.items)
+given_passing (any.Join t) runs = record {
   part = λ k deals h rows none whole. let p = join_part (setting_of t.processor) rows (inputs_view t.inputs.items) in p.part k deals (h rows none whole);
   front = λ xs ys h rows none whole. let p = join_part (setting_of t.processor) rows (inputs_view t.inputs.items) in p.front xs ys (h rows none whole);
 }
-given_passing (any.Frame t) = load_passing (load (all_data (inputs_view t.inputs.items)))
-given_passing (any.Combine t) = combine_passing t.processor.vertex t.processor.policy.size t.processor.policy.slide t.processor.start.items (inputs_view t.inputs.items)
+given_passing (any.Frame t) runs = load_passing (load (all_data (inputs_view t.inputs.items)))
+given_passing (any.Combine t) runs = combine_passing t.processor.vertex t.processor.policy.size t.processor.policy.slide t.processor.start.items (inputs_view t.inputs.items)
+given_passing t runs = absurd runs
 
-gives_out : (t : AnyTasklet) (came : List Arrival) (gave : List Item) → AnyKeeps t came gave → Giving gave (waiting t) (outputs_view (outputs_of t))
-gives_out (any.Stamp t) came gave k = k.gives_out
-gives_out (any.Map t) came gave k = k.gives_out
-gives_out (any.Filter t) came gave k = k.gives_out
-gives_out (any.Flat t) came gave k = k.gives_out
-gives_out (any.Join t) came gave k = k.gives_out
-gives_out (any.Frame t) came gave k = k.gives_out
-gives_out (any.Combine t) came gave k = k.gives_out
+gives_out : (t : AnyTasklet) (came : List Arrival) (gave : List Item) → RunsProcessor t → AnyKeeps t came gave → Giving gave (waiting t) (outputs_view (outputs_of t))
+gives_out (any.Stamp t) came gave runs k = k.gives_out
+gives_out (any.Map t) came gave runs k = k.gives_out
+gives_out (any.Filter t) came gave runs k = k.gives_out
+gives_out (any.Flat t) came gave runs k = k.gives_out
+gives_out (any.Join t) came gave runs k = k.gives_out
+gives_out (any.Frame t) came gave runs k = k.gives_out
+gives_out (any.Combine t) came gave runs k = k.gives_out
+gives_out t came gave runs k = absurd runs
 
-pub sent : (t : AnyTasklet) (came : List Arrival) (gave : List Item) → AnyKeeps t came gave → AnySoFar t came gave → EachSent (GivesByKind t) (outputs_view (outputs_of t))
-sent t came gave k s = sends (GivesByKind t) (given_passing t) gave (waiting t) (outputs_view (outputs_of t)) (gives_out t came gave k) (gives t came gave s)
+pub sent : (t : AnyTasklet) (came : List Arrival) (gave : List Item) → RunsProcessor t → AnyKeeps t came gave → AnySoFar t came gave → EachSent (GivesByKind t) (outputs_view (outputs_of t))
+sent t came gave runs k s = sends (GivesByKind t) (given_passing t runs) gave (waiting t) (outputs_view (outputs_of t)) (gives_out t came gave runs k) (gives t came gave runs s)

@@ -112,57 +112,27 @@ same_flat legs (e ∷ xs) h =
 -- ---- what one tasklet of each kind gave
 source_each : (names : _) (lag : _) (t : AnyTasklet) (given : List Item) → IsFor (Source names lag) t → EndedByKind t given → SameBag (events_of given) (events_of (all_data (ins t)))
 source_each names lag (any.Stamp t) given is e = e.events
-source_each names lag (any.Map t) given is e = absurd is
-source_each names lag (any.Filter t) given is e = absurd is
-source_each names lag (any.Flat t) given is e = absurd is
-source_each names lag (any.Join t) given is e = absurd is
-source_each names lag (any.Frame t) given is e = absurd is
-source_each names lag (any.Combine t) given is e = absurd is
+source_each names lag t given is e = absurd is
 
 side_each : (file : _) (t : AnyTasklet) (given : List Item) → IsFor (Side file) t → EndedByKind t given → SameBag (events_of given) (events_of (all_data (ins t)))
 side_each file (any.Stamp t) given is e = e.events
-side_each file (any.Map t) given is e = absurd is
-side_each file (any.Filter t) given is e = absurd is
-side_each file (any.Flat t) given is e = absurd is
-side_each file (any.Join t) given is e = absurd is
-side_each file (any.Frame t) given is e = absurd is
-side_each file (any.Combine t) given is e = absurd is
+side_each file t given is e = absurd is
 
 map_each : (set : _) (t : AnyTasklet) (given : List Item) → IsFor (Map set) t → EndedByKind t given → SameBag (events_of given) (map (mapped set) (events_of (all_data (ins t))))
-map_each set (any.Stamp t) given is e = absurd is
 map_each set (any.Map t) given is e = subst (λ (s : List (Option Term)). SameBag (events_of given) (map (mapped s) (events_of (all_data (ins (any.Map t)))))) is e.events
-map_each set (any.Filter t) given is e = absurd is
-map_each set (any.Flat t) given is e = absurd is
-map_each set (any.Join t) given is e = absurd is
-map_each set (any.Frame t) given is e = absurd is
-map_each set (any.Combine t) given is e = absurd is
+map_each set t given is e = absurd is
 
 filter_each : (test : _) (t : AnyTasklet) (given : List Item) → IsFor (Filter test) t → EndedByKind t given → SameBag (events_of given) (filter (passes test) (events_of (all_data (ins t))))
-filter_each test (any.Stamp t) given is e = absurd is
-filter_each test (any.Map t) given is e = absurd is
 filter_each test (any.Filter t) given is e = subst (λ (s : Term). SameBag (events_of given) (filter (passes s) (events_of (all_data (ins (any.Filter t)))))) is e.events
-filter_each test (any.Flat t) given is e = absurd is
-filter_each test (any.Join t) given is e = absurd is
-filter_each test (any.Frame t) given is e = absurd is
-filter_each test (any.Combine t) given is e = absurd is
+filter_each test t given is e = absurd is
 
 flat_each : (legs : _) (t : AnyTasklet) (given : List Item) → IsFor (Flat legs) t → EndedByKind t given → SameBag (events_of given) (flat_map (flattened joined_key (map leg_value legs)) (events_of (all_data (ins t))))
-flat_each legs (any.Stamp t) given is e = absurd is
-flat_each legs (any.Map t) given is e = absurd is
-flat_each legs (any.Filter t) given is e = absurd is
 flat_each legs (any.Flat t) given is e = subst (λ (ls : List LegValue). SameBag (events_of given) (flat_map (flattened joined_key ls) (events_of (all_data (ins (any.Flat t)))))) is e.events
-flat_each legs (any.Join t) given is e = absurd is
-flat_each legs (any.Frame t) given is e = absurd is
-flat_each legs (any.Combine t) given is e = absurd is
+flat_each legs t given is e = absurd is
 
 join_each : (mode : _) (rekey : _) (fields : _) (t : AnyTasklet) (given : List Item) → IsFor (Join mode rekey fields) t → EndedByKind t given → events_of (data_received Build (ins t)) ≡ [] → SameBag (events_of given) (flat_map (joined (joining mode rekey fields) (sides_of (data_received Build (ins t)))) (events_of (data_received Stream (ins t))))
-join_each mode rekey fields (any.Stamp t) given is e = absurd is
-join_each mode rekey fields (any.Map t) given is e = absurd is
-join_each mode rekey fields (any.Filter t) given is e = absurd is
-join_each mode rekey fields (any.Flat t) given is e = absurd is
 join_each mode rekey fields (any.Join t) given is e = λ none. subst (λ (j : Joining). SameBag (events_of given) (flat_map (joined j (sides_of (data_received Build (ins (any.Join t))))) (events_of (data_received Stream (ins (any.Join t)))))) is (e none).events
-join_each mode rekey fields (any.Frame t) given is e = absurd is
-join_each mode rekey fields (any.Combine t) given is e = absurd is
+join_each mode rekey fields t given is e = absurd is
 
 -- one tasklet of a first stage
 record KeptOne (slide : ℤ) (came : List EventValue) (given : List Item) : Type 0 where
@@ -171,13 +141,8 @@ record KeptOne (slide : ℤ) (came : List EventValue) (given : List Item) : Type
   sums : FramesSum slide (frames_of given) kept
 
 frame_each : (size slide : ℤ) (t : AnyTasklet) (given : List Item) → IsFor (Accumulate size slide) t → EndedByKind t given → others_of (all_data (ins t)) ≡ [] → KeptOne slide (events_of (all_data (ins t))) given
-frame_each size slide (any.Stamp t) given is e = absurd is
-frame_each size slide (any.Map t) given is e = absurd is
-frame_each size slide (any.Filter t) given is e = absurd is
-frame_each size slide (any.Flat t) given is e = absurd is
-frame_each size slide (any.Join t) given is e = absurd is
 frame_each size slide (any.Frame t) given is e = λ none. let f = e none in record { kept = f.kept; parts = f.parts; sums = subst (λ (s : ℤ). FramesSum s (frames_of given) f.kept) is f.sums }
-frame_each size slide (any.Combine t) given is e = absurd is
+frame_each size slide t given is e = absurd is
 
 -- what each of the first n kept
 below : {X : Type 0} (R : ℕ → X → Type 0) (none : X) (n : ℕ) → ((i : ℕ) → i < n → (x : X) × R i x) → (f : ℕ → X) × ((i : ℕ) → i < n → R i (f i))

@@ -61,7 +61,7 @@ pub record CombineEnded (vertex : ℕ) (size slide : ℤ) (begun : Option ℤ) (
   pub rows : RowsAre vertex size slide dues (start ++ frames) (rows_of given)
   pub lates : SameBag (lates_of given) (lates_of (all_data inputs))
 
--- what a tasklet of any kind gave: a join where no event came by a build queue, a first stage where only events came, a second
+-- what a tasklet of any kind of processor gave: a join where no event came by a build queue, a first stage where only events came, a second
 -- stage where no row came and what each queue received is closed
 abbrev pub EndedByKind : AnyTasklet → List Item → Type 0
 EndedByKind (any.Stamp t) given = StampEnded (inputs_view t.inputs.items) given
@@ -73,3 +73,4 @@ EndedByKind (any.Frame t) given = others_of (all_data (inputs_view t.inputs.item
 EndedByKind (any.Combine t) given =
     EachReceived Closed (inputs_view t.inputs.items) → rows_of (all_data (inputs_view t.inputs.items)) ≡ []
     → CombineEnded t.processor.vertex t.processor.policy.size t.processor.policy.slide t.processor.begun t.processor.start.items (inputs_view t.inputs.items) given
+EndedByKind t given = ⊥

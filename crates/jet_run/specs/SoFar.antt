@@ -56,7 +56,7 @@ pub record CombineGives (vertex : ℕ) (size slide : ℤ) (start : List FrameVal
 abbrev pub load : List Item → ℕ
 load xs = length (events_of xs) + (length (sides_of xs) + (length (frames_of xs) + (length (rows_of xs) + length (lates_of xs))))
 
--- what a tasklet of any kind has given. A join takes no event before every build queue is done, so it joins with all rows
+-- what a tasklet of any kind of processor has given. A join takes no event before every build queue is done, so it joins with all rows
 -- where these have come by then. A first stage gives no more than came.
 abbrev pub GivesByKind : AnyTasklet → List Item → Type 0
 GivesByKind (any.Stamp t) given = StampGives (inputs_view t.inputs.items) given
@@ -69,3 +69,4 @@ GivesByKind (any.Join t) given =
     → JoinGives (setting_of t.processor) rows (inputs_view t.inputs.items) given
 GivesByKind (any.Frame t) given = load given ≤ load (all_data (inputs_view t.inputs.items))
 GivesByKind (any.Combine t) given = CombineGives t.processor.vertex t.processor.policy.size t.processor.policy.slide t.processor.start.items (inputs_view t.inputs.items) given
+GivesByKind t given = ⊥

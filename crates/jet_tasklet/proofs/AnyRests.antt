@@ -17,3 +17,5 @@ starved_rest (any.Flat t) h = one_rests t h
 starved_rest (any.Join t) h = one_rests t h
 starved_rest (any.Frame t) h = one_rests t h
 starved_rest (any.Combine t) h = one_rests t h
+starved_rest (any.Send s) h = record { hand = h.starved.hand; work = h.starved.work }
+starved_rest (any.Receive r) h = h.held

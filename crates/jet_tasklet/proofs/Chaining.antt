@@ -1,36 +1,33 @@
 -- Chains of tasklets through turns and meetings.
 use Rattle.std.proofs.Common.{◌≡◌, ℕ, zero, suc, ◌+◌, ◌-◌, ◌<◌, List, [], ◌∷◌, ◌++◌, map, length, get_or, set, take, Bool, false, refl, sym, ◌∙◌, ap, subst, arith, length-append}
 use Rattle.std.proofs.lemmas.List.{set-append_left, set-append_right, take_at}
-use Rattle.std.specs.Prelude.{Option, Some, slice_get}
+use Rattle.std.specs.Prelude.{Option, Some, None, slice_get}
 use Rattle.std.specs.List.{AllZip}
 use Rattle.jet_items.specs.declared.item.Item.{Item}
 use Rattle.jet_items.specs.Order.{Each}
-use Rattle.jet_boxes.specs.declared.port.Port.{Port}
-use Rattle.jet_boxes.specs.declared.port.Port.TheVariants.{Stream}
-use Rattle.jet_boxes.specs.Entry.{CallEntry}
 use Rattle.jet_ring.specs.Ring.{Ring, TxView, RxView}
 use Rattle.jet_conveyor.specs.Conveyor as conveyor
 use Rattle.jet_router.specs.declared.router.Router.{Router}
 use Rattle.jet_router.specs.Router as router
-use Rattle.jet_router.specs.Dest.{DestView}
 use Rattle.jet_tasklet.specs.declared.tasklet.Tasklet.{Tasklet}
-use Rattle.jet_tasklet.specs.declared.input.Input.{Input}
 use Rattle.jet_tasklet.specs.declared.output.Output.{Output}
 use Rattle.jet_tasklet.specs.declared.any.AnyTasklet.{AnyTasklet}
 use Rattle.jet_tasklet.specs.declared.any.AnyTasklet.TheVariants as any
 use Rattle.jet_tasklet.specs.Inputs.{InputView, inputs_view}
 use Rattle.jet_tasklet.specs.Outputs.{OutputView, outputs_view}
 use Rattle.jet_tasklet.specs.Turned.{InputGoes, OutputGoes, Turned}
-use Rattle.jet_tasklet.specs.Keeps.{IsLawful, Goes}
-use Rattle.jet_tasklet.specs.Kinds.{stamps, maps, filters, flats, joins, frames, combines, inputs_of, outputs_of}
+use Rattle.jet_tasklet.specs.Kinds.{stamps, maps, filters, flats, joins, frames, combines, outputs_of}
+use Rattle.jet_tasklet.specs.Links.{SendKeeps, ReceiveKeeps}
+use Rattle.jet_wire.specs.Receiver.{receiver_view}
+use Rattle.jet_wire.specs.Sender.{sender_view}
 use Rattle.jet_tasklet.specs.Any.{AnyIsLawful, AnyKeeps, AnyGoes, AnyTurned, any_with_output}
 use Rattle.jet_tasklet.specs.declared.arrival.Arrival.{Arrival}
 use Rattle.jet_tasklet.specs.Views.{ins, outs}
-use Rattle.jet_tasklet.specs.Meeting.{HasEnd, HasQueue, OutputMet, InputMet, AnyGiverMet, AnyTakerMet}
+use Rattle.jet_tasklet.specs.Meeting.{HasEnd, HasQueue, OutputMet, InputMet, AnyGiverMet, AnyTakerMet, AnyLinkMet}
 use Rattle.jet_tasklet.proofs.AnyMeeting.{any_kept, any_keeps}
 use Rattle.jet_tasklet.specs.inner.Chain.{ring_in, ring_out, Ends, ends_of, all_ends, AreLinked, AreJoined, IsChain}
 use Rattle.jet_tasklet.proofs.Keeping.{lawful_goes}
-use Rattle.jet_tasklet.proofs.Meeting.{output_keeps}
+use Rattle.jet_tasklet.proofs.Linking.{link_next}
 
 -- ---- a turn
 ring_in_stays : (vs ws : List InputView) → AllZip InputGoes vs ws → ring_in ws ≡ ring_in vs
@@ -61,6 +58,8 @@ any_turned_ends (any.Flat t) (any.Flat u) h = turned_ends flats.same t u h
 any_turned_ends (any.Join t) (any.Join u) h = turned_ends joins.same t u h
 any_turned_ends (any.Frame t) (any.Frame u) h = turned_ends frames.same t u h
 any_turned_ends (any.Combine t) (any.Combine u) h = turned_ends combines.same t u h
+any_turned_ends (any.Send t) (any.Send u) h = ap (λ (rs : List Ring). ends_by (slice_get rs 0) None) h.queues.rings
+any_turned_ends (any.Receive t) (any.Receive u) h = ap (λ (rs : List Ring). ends_by None (slice_get rs 0)) h.router.same.rings_kept
 any_turned_ends t u h = absurd h
 
 pub any_lawful_next : (t u : AnyTasklet) → AnyIsLawful t → AnyGoes t u → AnyIsLawful u
@@ -71,18 +70,11 @@ any_lawful_next (any.Flat t) (any.Flat u) l f = lawful_goes flats.stands flats.a
 any_lawful_next (any.Join t) (any.Join u) l f = lawful_goes joins.stands joins.amid joins.takes t u l f
 any_lawful_next (any.Frame t) (any.Frame u) l f = lawful_goes frames.stands frames.amid frames.takes t u l f
 any_lawful_next (any.Combine t) (any.Combine u) l f = lawful_goes combines.stands combines.amid combines.takes t u l f
+any_lawful_next (any.Send t) (any.Send u) l f = link_next SendKeeps (sender_view t) (sender_view u) l f
+any_lawful_next (any.Receive t) (any.Receive u) l f = link_next ReceiveKeeps (receiver_view t) (receiver_view u) l f
 any_lawful_next t u l f = absurd f
 
 -- ---- a meeting
-pub any_lawful_output : (t : AnyTasklet) (n d : ℕ) (was w : Router) → AnyIsLawful t → slice_get (map (λ (o : Output). o.router) (outputs_of t)) n ≡ Some was → router.Refreshed (router.view was) (router.view w) d → AnyIsLawful (any_with_output t n was w)
-any_lawful_output (any.Stamp t) n d was w l at met = record { came = l.came; gave = l.gave; keeps = output_keeps stamps.stands stamps.amid stamps.takes t l.came l.gave n d was w at met l.keeps }
-any_lawful_output (any.Map t) n d was w l at met = record { came = l.came; gave = l.gave; keeps = output_keeps maps.stands maps.amid maps.takes t l.came l.gave n d was w at met l.keeps }
-any_lawful_output (any.Filter t) n d was w l at met = record { came = l.came; gave = l.gave; keeps = output_keeps filters.stands filters.amid filters.takes t l.came l.gave n d was w at met l.keeps }
-any_lawful_output (any.Flat t) n d was w l at met = record { came = l.came; gave = l.gave; keeps = output_keeps flats.stands flats.amid flats.takes t l.came l.gave n d was w at met l.keeps }
-any_lawful_output (any.Join t) n d was w l at met = record { came = l.came; gave = l.gave; keeps = output_keeps joins.stands joins.amid joins.takes t l.came l.gave n d was w at met l.keeps }
-any_lawful_output (any.Frame t) n d was w l at met = record { came = l.came; gave = l.gave; keeps = output_keeps frames.stands frames.amid frames.takes t l.came l.gave n d was w at met l.keeps }
-any_lawful_output (any.Combine t) n d was w l at met = record { came = l.came; gave = l.gave; keeps = output_keeps combines.stands combines.amid combines.takes t l.came l.gave n d was w at met l.keeps }
-
 some_is : {X : Type 0} (x y : X) → Some x ≡ Some y → x ≡ y
 some_is x y e = cc
 
@@ -107,6 +99,8 @@ any_output_ends (any.Flat t) d was w at met = ap (λ (r : Option Ring). ends_by 
 any_output_ends (any.Join t) d was w at met = ap (λ (r : Option Ring). ends_by (ring_in (inputs_view t.inputs.items)) r) (out_set t.outputs.items was w (get_or t.outputs.items 0 (record { router = was; had = false })).had met.same.rings_kept at)
 any_output_ends (any.Frame t) d was w at met = ap (λ (r : Option Ring). ends_by (ring_in (inputs_view t.inputs.items)) r) (out_set t.outputs.items was w (get_or t.outputs.items 0 (record { router = was; had = false })).had met.same.rings_kept at)
 any_output_ends (any.Combine t) d was w at met = ap (λ (r : Option Ring). ends_by (ring_in (inputs_view t.inputs.items)) r) (out_set t.outputs.items was w (get_or t.outputs.items 0 (record { router = was; had = false })).had met.same.rings_kept at)
+any_output_ends (any.Send s) d was w at met = absurd (cc)
+any_output_ends (any.Receive r) d was w at met = ap (λ (o : Option Ring). ends_by None o) (out_set (outputs_of (any.Receive r)) was w false met.same.rings_kept at)
 
 -- ---- the list
 pub each_get : (xs : List AnyTasklet) (i : ℕ) (x : AnyTasklet) → i < length xs → x ≡ get_or xs i x → Each AnyIsLawful xs → AnyIsLawful x
@@ -224,6 +218,9 @@ giver_ends t u d m = ap (λ (vs : List InputView). ends_by (ring_in vs) (ring_ou
 
 pub taker_ends : (t u : AnyTasklet) (q : ℕ) → AnyTakerMet t u 0 q → ends_of u ≡ ends_of t
 taker_ends t u q m = ap (λ (os : List OutputView). ends_by (ring_in (ins u)) (ring_out os)) m.outputs ∙ ap (λ (r : Option Ring). ends_by r (ring_out (outs t))) (ring_in_met (ins t) (ins u) q m.inputs)
+
+pub link_ends : (t u : AnyTasklet) → AnyLinkMet t u → ends_of u ≡ ends_of t
+link_ends t u m = ap (λ (vs : List InputView). ends_by (ring_in vs) (ring_out (outs u))) m.inputs ∙ ap (λ (os : List OutputView). ends_by (ring_in (ins t)) (ring_out os)) m.outputs
 
 pub lawful_met : (t u : AnyTasklet) → ((came : List Arrival) (gave : List Item) → AnyKeeps t came gave → AnyKeeps u came gave) → AnyIsLawful t → AnyIsLawful u
 lawful_met t u keeps l =

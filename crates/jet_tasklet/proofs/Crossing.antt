@@ -16,6 +16,8 @@ use Rattle.jet_window.proofs.frame.FrameP.TheSendSync as frame_send
 use Rattle.jet_window.proofs.combine.CombineP.TheSendSync as combine_send
 use Rattle.jet_window.specs.contracts.frame.FrameP as frame
 use Rattle.jet_window.specs.contracts.combine.CombineP as combine
+use Rattle.jet_wire.proofs.receiver.Receiver.TheSendSync as receiver_send
+use Rattle.jet_wire.proofs.sender.Sender.TheSendSync as sender_send
 use Rattle.jet_tasklet.proofs.tasklet.Tasklet.TheSendSync as tasklet_send
 use Rattle.jet_tasklet.specs.contracts.tasklet.Tasklet as tasklet
 use Rattle.jet_tasklet.specs.contracts.any.AnyTasklet as any
@@ -46,4 +48,4 @@ any_send =
     let joined = kind_send join.the_row join_send.the_send in
     let framed = kind_send frame.the_row frame_send.the_send in
     let combined = kind_send combine.the_row combine_send.the_send in
-    variants_send any.enum (stamped, (mapped, (filtered, (flattened, (joined, (framed, (combined, tt)))))))
+    variants_send any.enum (stamped, (mapped, (filtered, (flattened, (joined, (framed, (combined, ((sender_send.the_send, tt), ((receiver_send.the_send, tt), tt)))))))))

@@ -55,7 +55,7 @@ input_stays v = record {
   still_known = λ q. prefix_refl (received_at v.queues q ++ known_at v.queues q);
 }
 
-input_trans : (a b c : InputView) → InputGoes a b → InputGoes b c → InputGoes a c
+pub input_trans : (a b c : InputView) → InputGoes a b → InputGoes b c → InputGoes a c
 input_trans a b c f g = record {
   port = g.port ∙ f.port;
   rings = g.rings ∙ f.rings;

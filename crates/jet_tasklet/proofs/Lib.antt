@@ -17,6 +17,7 @@ pub mod Heard
 pub mod JoinWaits
 pub mod Keeping
 pub mod Lasting
+pub mod Linking
 pub mod Latest
 pub mod Lowest
 pub mod MarksGiven

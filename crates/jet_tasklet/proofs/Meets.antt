@@ -17,17 +17,17 @@ use Rattle.jet_router.specs.Router as router
 use Rattle.jet_tasklet.specs.declared.input.Input.{Input}
 use Rattle.jet_tasklet.specs.declared.output.Output.{Output}
 use Rattle.jet_tasklet.specs.declared.tasklet.Tasklet.{Tasklet}
+use Rattle.jet_tasklet.specs.declared.arrival.Arrival.{Arrival}
 use Rattle.jet_tasklet.specs.declared.any.AnyTasklet.{AnyTasklet}
 use Rattle.jet_tasklet.specs.declared.any.AnyTasklet.TheVariants as any
 use Rattle.jet_tasklet.specs.Inputs.{InputView, input_view, inputs_view}
 use Rattle.jet_tasklet.specs.Outputs.{OutputView, output_view, outputs_view}
 use Rattle.jet_tasklet.specs.Lending.{with_input, with_output}
-use Rattle.jet_tasklet.specs.Kinds.{stamps, maps, filters, flats, joins, frames, combines, inputs_of, outputs_of}
-use Rattle.jet_tasklet.specs.Any.{any_with_input, any_with_output}
+use Rattle.jet_tasklet.specs.Kinds.{inputs_of, outputs_of}
+use Rattle.jet_tasklet.specs.Any.{AnyKeeps, any_with_input, any_with_output}
 use Rattle.jet_tasklet.specs.Views.{ins, outs}
 use Rattle.jet_tasklet.specs.Meeting.{HasEnd, IsQueue, HasQueue, EndsMet, OutputMet, InputMet, GiverMet, TakerMet, AnyGiverMet, AnyTakerMet}
 use Rattle.jet_tasklet.proofs.Meeting.{input_keeps, output_keeps}
-use Rattle.jet_tasklet.proofs.AnyMeeting.{any_input_keeps, any_output_keeps}
 
 pub some_is : {X : Type 0} (x y : X) → Some x ≡ Some y → x ≡ y
 some_is x y e = cc
@@ -107,29 +107,44 @@ module _ {P : Type 0} (stands : P → List CallEntry → List Item → Type 0) (
   }
 
 -- the same of a tasklet of any kind, with what the place that met is now
+abbrev StillKeeps : AnyTasklet → AnyTasklet → Type 0
+StillKeeps t u = (came : List Arrival) (gave : List Item) → AnyKeeps t came gave → AnyKeeps u came gave
+
 abbrev AnyGiverNow : AnyTasklet → AnyTasklet → ℕ → ℕ → OutputView → Type 0
 AnyGiverNow t u o d now = (m : AnyGiverMet t u o d) × (m.outputs.now ≡ now)
 
-pub any_giver_met : (t : AnyTasklet) (o d : ℕ) (v : OutputView) (was w : Router) → slice_get (outs t) o ≡ Some v → slice_get (map (λ (x : Output). x.router) (outputs_of t)) o ≡ Some was → router.Refreshed (router.view was) (router.view w) d → AnyGiverNow t (any_with_output t o was w) o d (out_now v w)
-any_giver_met (any.Stamp t) o d v was w at value met = (record { keeps = λ came gave k. any_output_keeps (any.Stamp t) came gave o d was w k value met; outputs = output_met t.outputs.items o d v was w at value met; inputs = refl; outbox = refl; step = refl; processor = refl }, refl)
-any_giver_met (any.Map t) o d v was w at value met = (record { keeps = λ came gave k. any_output_keeps (any.Map t) came gave o d was w k value met; outputs = output_met t.outputs.items o d v was w at value met; inputs = refl; outbox = refl; step = refl; processor = refl }, refl)
-any_giver_met (any.Filter t) o d v was w at value met = (record { keeps = λ came gave k. any_output_keeps (any.Filter t) came gave o d was w k value met; outputs = output_met t.outputs.items o d v was w at value met; inputs = refl; outbox = refl; step = refl; processor = refl }, refl)
-any_giver_met (any.Flat t) o d v was w at value met = (record { keeps = λ came gave k. any_output_keeps (any.Flat t) came gave o d was w k value met; outputs = output_met t.outputs.items o d v was w at value met; inputs = refl; outbox = refl; step = refl; processor = refl }, refl)
-any_giver_met (any.Join t) o d v was w at value met = (record { keeps = λ came gave k. any_output_keeps (any.Join t) came gave o d was w k value met; outputs = output_met t.outputs.items o d v was w at value met; inputs = refl; outbox = refl; step = refl; processor = refl }, refl)
-any_giver_met (any.Frame t) o d v was w at value met = (record { keeps = λ came gave k. any_output_keeps (any.Frame t) came gave o d was w k value met; outputs = output_met t.outputs.items o d v was w at value met; inputs = refl; outbox = refl; step = refl; processor = refl }, refl)
-any_giver_met (any.Combine t) o d v was w at value met = (record { keeps = λ came gave k. any_output_keeps (any.Combine t) came gave o d was w k value met; outputs = output_met t.outputs.items o d v was w at value met; inputs = refl; outbox = refl; step = refl; processor = refl }, refl)
+pub any_giver_met : (t : AnyTasklet) (o d : ℕ) (v : OutputView) (was w : Router) → slice_get (outs t) o ≡ Some v → slice_get (map (λ (x : Output). x.router) (outputs_of t)) o ≡ Some was → router.Refreshed (router.view was) (router.view w) d → StillKeeps t (any_with_output t o was w) → AnyGiverNow t (any_with_output t o was w) o d (out_now v w)
+any_giver_met (any.Stamp t) o d v was w at value met keeps = (record { keeps = keeps; outputs = output_met t.outputs.items o d v was w at value met; inputs = refl; outbox = refl; step = refl; processor = refl }, refl)
+any_giver_met (any.Map t) o d v was w at value met keeps = (record { keeps = keeps; outputs = output_met t.outputs.items o d v was w at value met; inputs = refl; outbox = refl; step = refl; processor = refl }, refl)
+any_giver_met (any.Filter t) o d v was w at value met keeps = (record { keeps = keeps; outputs = output_met t.outputs.items o d v was w at value met; inputs = refl; outbox = refl; step = refl; processor = refl }, refl)
+any_giver_met (any.Flat t) o d v was w at value met keeps = (record { keeps = keeps; outputs = output_met t.outputs.items o d v was w at value met; inputs = refl; outbox = refl; step = refl; processor = refl }, refl)
+any_giver_met (any.Join t) o d v was w at value met keeps = (record { keeps = keeps; outputs = output_met t.outputs.items o d v was w at value met; inputs = refl; outbox = refl; step = refl; processor = refl }, refl)
+any_giver_met (any.Frame t) o d v was w at value met keeps = (record { keeps = keeps; outputs = output_met t.outputs.items o d v was w at value met; inputs = refl; outbox = refl; step = refl; processor = refl }, refl)
+any_giver_met (any.Combine t) o d v was w at value met keeps = (record { keeps = keeps; outputs = output_met t.outputs.items o d v was w at value met; inputs = refl; outbox = refl; step = refl; processor = refl }, refl)
+any_giver_met (any.Send s) o d v was w at value met keeps = absurd (cc)
+any_giver_met (any.Receive r) zero d v was w at value met keeps = (
+  record { keeps = keeps; outputs = output_met (outputs_of (any.Receive r)) 0 d v was w at value met; inputs = refl; outbox = refl; step = refl; processor = record { end = refl; at = refl; ended = refl } },
+  refl,
+)
+any_giver_met (any.Receive r) (suc o) d v was w at value met keeps = absurd (cc)
 
 abbrev AnyTakerNow : AnyTasklet → AnyTasklet → ℕ → ℕ → InputView → Type 0
 AnyTakerNow t u i q now = (m : AnyTakerMet t u i q) × (m.inputs.now ≡ now)
 
-pub any_taker_met : (t : AnyTasklet) (i q : ℕ) (v : InputView) (was w : Conveyor) → slice_get (ins t) i ≡ Some v → slice_get (map (λ (x : Input). x.conveyor) (inputs_of t)) i ≡ Some was → conveyor.Refreshed (conveyor.view was) (conveyor.view w) q → AnyTakerNow t (any_with_input t i was w) i q (in_now v w)
-any_taker_met (any.Stamp t) i q v was w at value met = (record { keeps = λ came gave k. any_input_keeps (any.Stamp t) came gave i q was w k value met; inputs = input_met t.inputs.items i q v was w at value met; outputs = refl; outbox = refl; step = refl; processor = refl }, refl)
-any_taker_met (any.Map t) i q v was w at value met = (record { keeps = λ came gave k. any_input_keeps (any.Map t) came gave i q was w k value met; inputs = input_met t.inputs.items i q v was w at value met; outputs = refl; outbox = refl; step = refl; processor = refl }, refl)
-any_taker_met (any.Filter t) i q v was w at value met = (record { keeps = λ came gave k. any_input_keeps (any.Filter t) came gave i q was w k value met; inputs = input_met t.inputs.items i q v was w at value met; outputs = refl; outbox = refl; step = refl; processor = refl }, refl)
-any_taker_met (any.Flat t) i q v was w at value met = (record { keeps = λ came gave k. any_input_keeps (any.Flat t) came gave i q was w k value met; inputs = input_met t.inputs.items i q v was w at value met; outputs = refl; outbox = refl; step = refl; processor = refl }, refl)
-any_taker_met (any.Join t) i q v was w at value met = (record { keeps = λ came gave k. any_input_keeps (any.Join t) came gave i q was w k value met; inputs = input_met t.inputs.items i q v was w at value met; outputs = refl; outbox = refl; step = refl; processor = refl }, refl)
-any_taker_met (any.Frame t) i q v was w at value met = (record { keeps = λ came gave k. any_input_keeps (any.Frame t) came gave i q was w k value met; inputs = input_met t.inputs.items i q v was w at value met; outputs = refl; outbox = refl; step = refl; processor = refl }, refl)
-any_taker_met (any.Combine t) i q v was w at value met = (record { keeps = λ came gave k. any_input_keeps (any.Combine t) came gave i q was w k value met; inputs = input_met t.inputs.items i q v was w at value met; outputs = refl; outbox = refl; step = refl; processor = refl }, refl)
+pub any_taker_met : (t : AnyTasklet) (i q : ℕ) (v : InputView) (was w : Conveyor) → slice_get (ins t) i ≡ Some v → slice_get (map (λ (x : Input). x.conveyor) (inputs_of t)) i ≡ Some was → conveyor.Refreshed (conveyor.view was) (conveyor.view w) q → StillKeeps t (any_with_input t i was w) → AnyTakerNow t (any_with_input t i was w) i q (in_now v w)
+any_taker_met (any.Stamp t) i q v was w at value met keeps = (record { keeps = keeps; inputs = input_met t.inputs.items i q v was w at value met; outputs = refl; outbox = refl; step = refl; processor = refl }, refl)
+any_taker_met (any.Map t) i q v was w at value met keeps = (record { keeps = keeps; inputs = input_met t.inputs.items i q v was w at value met; outputs = refl; outbox = refl; step = refl; processor = refl }, refl)
+any_taker_met (any.Filter t) i q v was w at value met keeps = (record { keeps = keeps; inputs = input_met t.inputs.items i q v was w at value met; outputs = refl; outbox = refl; step = refl; processor = refl }, refl)
+any_taker_met (any.Flat t) i q v was w at value met keeps = (record { keeps = keeps; inputs = input_met t.inputs.items i q v was w at value met; outputs = refl; outbox = refl; step = refl; processor = refl }, refl)
+any_taker_met (any.Join t) i q v was w at value met keeps = (record { keeps = keeps; inputs = input_met t.inputs.items i q v was w at value met; outputs = refl; outbox = refl; step = refl; processor = refl }, refl)
+any_taker_met (any.Frame t) i q v was w at value met keeps = (record { keeps = keeps; inputs = input_met t.inputs.items i q v was w at value met; outputs = refl; outbox = refl; step = refl; processor = refl }, refl)
+any_taker_met (any.Combine t) i q v was w at value met keeps = (record { keeps = keeps; inputs = input_met t.inputs.items i q v was w at value met; outputs = refl; outbox = refl; step = refl; processor = refl }, refl)
+any_taker_met (any.Send s) zero q v was w at value met keeps = (
+  record { keeps = keeps; inputs = input_met (inputs_of (any.Send s)) 0 q v was w at value met; outputs = refl; outbox = refl; step = refl; processor = record { lows = refl; hand = refl; end = refl } },
+  refl,
+)
+any_taker_met (any.Send s) (suc i) q v was w at value met keeps = absurd (cc)
+any_taker_met (any.Receive r) i q v was w at value met keeps = absurd (cc)
 
 -- ---- the end that was lent
 -- where an output stood before

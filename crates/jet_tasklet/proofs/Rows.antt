@@ -11,8 +11,8 @@ use Rattle.jet_router.specs.Router as router
 use Rattle.jet_boxes.specs.declared.port.Port.{Port}
 use Rattle.jet_boxes.specs.Entry.{CallEntry}
 use Rattle.jet_tasklet.specs.declared.arrival.Arrival.{Arrival}
-use Rattle.jet_tasklet.specs.declared.progress.Progress.{Progress}
-use Rattle.jet_tasklet.specs.declared.progress.Progress.TheVariants as progress
+use Rattle.jet_wire.specs.declared.progress.Progress.{Progress}
+use Rattle.jet_wire.specs.declared.progress.Progress.TheVariants as progress
 use Rattle.jet_tasklet.specs.declared.tasklet.Tasklet.{Tasklet}
 use Rattle.jet_tasklet.specs.Inputs.{InputView, inputs_view, received_count}
 use Rattle.jet_tasklet.specs.Outputs.{OutputView, outputs_view, sent_count}
@@ -227,6 +227,11 @@ module _ {P : Type 0} (stands : P → List CallEntry → List Item → Type 0) (
   pub went_trans : ((p q r : P) → same p q → same q r → same p r) → (t u v : Tasklet P) → Went stands amid takes same t u → Went stands amid takes same u v → Went stands amid takes same t v
   went_trans trans t u v h k = record { goes = goes_trans stands amid takes t u v h.goes k.goes; turned = turned_trans same trans t u v h.turned k.turned }
 
+pub same_count : (says : Progress) → (says ≡ progress.Moved → ⊥) → (before after : ℕ) → after ≡ before → Counts says before after
+same_count progress.Moved unmoved before after e = absurd (unmoved refl)
+same_count progress.Idle unmoved before after e = e
+same_count progress.Done unmoved before after e = e
+
 module _ {P : Type 0} (stands : P → List CallEntry → List Item → Type 0) (amid : P → List CallEntry → CallEntry → List Item → Type 0) (takes : P → Port → ℕ → Type 0) where
   rests_enter : (a b : Tasklet P) (gave : List Item) → IsStill a b → entered (gave ++ []) b ≡ entered gave a
   rests_enter a b gave s = ap (λ (xs : List Item). xs ++ b.outbox.items) (append-nil gave) ∙ ap (λ (xs : List Item). gave ++ xs) s.outbox
@@ -237,11 +242,6 @@ module _ {P : Type 0} (stands : P → List CallEntry → List Item → Type 0) (
       let outputs = s.sent in
       let boxed = ap (λ (xs : List Item). length xs) (rests_enter a b gave s) in
       omega (arith, inputs, outputs, boxed)
-
-  same_count : (says : Progress) → (says ≡ progress.Moved → ⊥) → (before after : ℕ) → after ≡ before → Counts says before after
-  same_count progress.Moved unmoved before after e = absurd (unmoved refl)
-  same_count progress.Idle unmoved before after e = e
-  same_count progress.Done unmoved before after e = e
 
   pub rests_counts : (says : Progress) → (says ≡ progress.Moved → ⊥) → (a b : Tasklet P) (came : List Arrival) (gave : List Item) → IsStill a b → Stays stands amid takes a b → Keeps stands amid takes a came gave → Counted stands amid takes says a b came gave
   rests_counts says unmoved a b came gave s h k = record {

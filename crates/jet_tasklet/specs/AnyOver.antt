@@ -1,5 +1,5 @@
 -- What tasklets of any kind have told and given, and what is asked so that their lists are in order: the words of each kind, by cases.
-use Rattle.std.specs.Prelude.{ℕ, Bool, List, ◌++◌}
+use Rattle.std.specs.Prelude.{ℕ, Bool, List, [], ◌++◌}
 use Rattle.jet_items.specs.declared.item.Item.{Item}
 use Rattle.jet_items.specs.Order.{Each, Sound, Closed as ClosedItems}
 use Rattle.jet_boxes.specs.Entry.{CallEntry}
@@ -10,64 +10,52 @@ use Rattle.jet_tasklet.specs.declared.any.AnyTasklet.{AnyTasklet}
 use Rattle.jet_tasklet.specs.declared.any.AnyTasklet.TheVariants as any
 use Rattle.jet_tasklet.specs.Inputs.{inputs_view}
 use Rattle.jet_tasklet.specs.Keeps.{Keeps}
-use Rattle.jet_tasklet.specs.Kinds.{OfKind}
+use Rattle.jet_tasklet.specs.Kinds.{OfKind, OfProcessor, seen}
+use Rattle.jet_tasklet.specs.Links.{SendsSoFar, GivesOn}
 use Rattle.jet_tasklet.specs.Outputs.{outputs_view}
 use Rattle.jet_tasklet.specs.Over.{told_of, SoFar, Over}
 use Rattle.jet_tasklet.specs.Sending.{EachReceived, EachFront}
 use Rattle.jet_tasklet.specs.StampInOrder.{AreFromFiles}
+use Rattle.jet_tasklet.specs.Views.{ins}
+use Rattle.jet_wire.specs.Sender.{sender_view}
 
--- all that the processor is told of the items that came
+-- all that the processor is told of the items that came; an end of a link has none
 abbrev pub any_told_of : AnyTasklet → List Arrival → List CallEntry
-any_told_of (any.Stamp t) came = told_of t came
-any_told_of (any.Map t) came = told_of t came
-any_told_of (any.Filter t) came = told_of t came
-any_told_of (any.Flat t) came = told_of t came
-any_told_of (any.Join t) came = told_of t came
-any_told_of (any.Frame t) came = told_of t came
-any_told_of (any.Combine t) came = told_of t came
+any_told_of t came = seen (λ P u. told_of u came) (λ s. []) (λ r. []) t
 
 -- the law of its data holds of all that the processor was told, less what is pending; and that of its marks
 abbrev pub AnyKeepsBag : AnyTasklet → List Arrival → List Item → Type 0
-AnyKeepsBag t came gave = OfKind (λ P k u. Keeps k.bag k.bag_amid k.takes u came gave) t
+AnyKeepsBag t came gave = OfProcessor (λ P k u. Keeps k.bag k.bag_amid k.takes u came gave) t
 
 abbrev pub AnyKeepsMarks : AnyTasklet → List Arrival → List Item → Type 0
-AnyKeepsMarks t came gave = OfKind (λ P k u. Keeps k.marks k.marks_amid k.takes u came gave) t
+AnyKeepsMarks t came gave = OfProcessor (λ P k u. Keeps k.marks k.marks_amid k.takes u came gave) t
 
--- what the processor has given so far, by the law of its data; and by that of its marks
+-- what the processor has given so far, by the law of its data; and by that of its marks. What an end of a link gave is what it passes on of the items that came, and what it still holds
 abbrev pub AnySoFar : AnyTasklet → List Arrival → List Item → Type 0
-AnySoFar t came gave = OfKind (λ P k u. SoFar (k.bag u.processor) (k.bag_amid u.processor) (inputs_view u.inputs.items) (told_of u came) (gave ++ u.outbox.items)) t
+AnySoFar t came gave = OfKind (λ P k u. SoFar (k.bag u.processor) (k.bag_amid u.processor) (inputs_view u.inputs.items) (told_of u came) (gave ++ u.outbox.items)) (λ s. SendsSoFar (sender_view s) came gave) (λ r. GivesOn came gave) t
 
 abbrev pub AnyMarksSoFar : AnyTasklet → List Arrival → List Item → Type 0
-AnyMarksSoFar t came gave = OfKind (λ P k u. SoFar (k.marks u.processor) (k.marks_amid u.processor) (inputs_view u.inputs.items) (told_of u came) (gave ++ u.outbox.items)) t
+AnyMarksSoFar t came gave = OfKind (λ P k u. SoFar (k.marks u.processor) (k.marks_amid u.processor) (inputs_view u.inputs.items) (told_of u came) (gave ++ u.outbox.items)) (λ s. SendsSoFar (sender_view s) came gave) (λ r. GivesOn came gave) t
 
 -- the tasklet is over and its processor gave these items, by both laws
 abbrev pub AnyOver : AnyTasklet → List Arrival → List Item → Type 0
-AnyOver t came given = OfKind (λ P k u. Over (k.bag u.processor) (inputs_view u.inputs.items) (outputs_view u.outputs.items) (told_of u came) given × k.marks u.processor (told_of u came) given) t
+AnyOver t came given = OfProcessor (λ P k u. Over (k.bag u.processor) (inputs_view u.inputs.items) (outputs_view u.outputs.items) (told_of u came) given × k.marks u.processor (told_of u came) given) t
 
 -- what the processor asks for holds of each front of what it is told
 abbrev pub AnySoundIf : (ℕ → ℕ → Bool) → AnyTasklet → List Arrival → Type 0
-AnySoundIf behind t came = OfKind (λ P k u. EachFront (k.sound_if u.processor behind) (told_of u came)) t
+AnySoundIf behind t came = OfProcessor (λ P k u. EachFront (k.sound_if u.processor behind) (told_of u came)) t
 
 abbrev pub AnyClosedIf : AnyTasklet → List Arrival → Type 0
-AnyClosedIf t came = OfKind (λ P k u. EachFront (k.closed_if u.processor) (told_of u came)) t
+AnyClosedIf t came = OfProcessor (λ P k u. EachFront (k.closed_if u.processor) (told_of u came)) t
 
--- what each queue received is sound; the queues of a stamp received the events of files; events below the mark that a frame
--- vertex began with are called behind
+-- what each queue received is sound; the queues of a stamp, which are told no marks, received the events of files; events
+-- below the mark that a frame vertex began with are called behind
 abbrev pub IsFedSound : (ℕ → ℕ → Bool) → AnyTasklet → Type 0
 IsFedSound behind (any.Stamp t) = AreFromFiles t.processor.lag t.processor.grain behind (inputs_view t.inputs.items)
-IsFedSound behind (any.Map t) = EachReceived (Sound behind) (inputs_view t.inputs.items)
-IsFedSound behind (any.Filter t) = EachReceived (Sound behind) (inputs_view t.inputs.items)
-IsFedSound behind (any.Flat t) = EachReceived (Sound behind) (inputs_view t.inputs.items)
-IsFedSound behind (any.Join t) = EachReceived (Sound behind) (inputs_view t.inputs.items)
 IsFedSound behind (any.Frame t) = EachReceived (FrameSound behind t.processor.times.begun) (inputs_view t.inputs.items)
-IsFedSound behind (any.Combine t) = EachReceived (Sound behind) (inputs_view t.inputs.items)
+IsFedSound behind t = EachReceived (Sound behind) (ins t)
 
 -- what each queue received is closed; the queues of a stamp received no frame and no row
 abbrev pub IsFedClosed : AnyTasklet → Type 0
 IsFedClosed (any.Stamp t) = EachReceived (Each IsNoResult) (inputs_view t.inputs.items)
-IsFedClosed (any.Map t) = EachReceived ClosedItems (inputs_view t.inputs.items)
-IsFedClosed (any.Filter t) = EachReceived ClosedItems (inputs_view t.inputs.items)
-IsFedClosed (any.Flat t) = EachReceived ClosedItems (inputs_view t.inputs.items)
-IsFedClosed (any.Join t) = EachReceived ClosedItems (inputs_view t.inputs.items)
-IsFedClosed (any.Frame t) = EachReceived ClosedItems (inputs_view t.inputs.items)
-IsFedClosed (any.Combine t) = EachReceived ClosedItems (inputs_view t.inputs.items)
+IsFedClosed t = EachReceived ClosedItems (ins t)

@@ -3,10 +3,7 @@ use Rattle.std.specs.Prelude.{◌≡◌, true, List}
 use Rattle.jet_items.specs.declared.item.Item.{Item}
 use Rattle.jet_boxes.specs.declared.port.Port.{Port}
 use Rattle.jet_conveyor.specs.Conveyor.{EndsIn}
-use Rattle.jet_tasklet.specs.declared.any.AnyTasklet.{AnyTasklet}
-use Rattle.jet_tasklet.specs.declared.step.Step.TheVariants as step
 use Rattle.jet_tasklet.specs.Inputs.{InputView, all_done}
-use Rattle.jet_tasklet.specs.Kinds.{OfKind}
 use Rattle.jet_tasklet.specs.Trace.{has_ended}
 
 -- Done stands nowhere in the list but at its end; it is there only where the tasklet has put Done, and then every queue is done; and it is there once the tasklet has ended
@@ -15,7 +12,3 @@ pub record DoneLast (has_put ended : Type 0) (inputs : List InputView) (xs : Lis
   pub put : has_ended xs ≡ true → has_put
   pub over : has_ended xs ≡ true → (port : Port) → all_done port inputs ≡ true
   pub given : ended → has_ended xs ≡ true
-
--- the tasklet has put Done
-abbrev pub AnyHasPut : AnyTasklet → Type 0
-AnyHasPut t = OfKind (λ P k u. u.step ≡ step.Ended) t

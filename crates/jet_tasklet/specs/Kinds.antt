@@ -1,7 +1,8 @@
 -- What a contract sees of a tasklet of any kind.
-use Rattle.std.specs.Prelude.{ℕ, Bool, List}
+use Rattle.std.specs.Prelude.{ℕ, Bool, false, List, [], ◌∷◌}
 use Rattle.jet_items.specs.declared.item.Item.{Item}
 use Rattle.jet_boxes.specs.declared.port.Port.{Port}
+use Rattle.jet_boxes.specs.declared.port.Port.TheVariants.{Stream}
 use Rattle.jet_boxes.specs.Entry.{CallEntry}
 use Rattle.jet_stages.specs.declared.stamp.Stamp.{Stamp}
 use Rattle.jet_stages.specs.declared.map.MapP.{MapP}
@@ -10,6 +11,9 @@ use Rattle.jet_stages.specs.declared.flat.FlatP.{FlatP}
 use Rattle.jet_join.specs.declared.join.JoinP.{JoinP}
 use Rattle.jet_window.specs.declared.frame.FrameP.{FrameP}
 use Rattle.jet_window.specs.declared.combine.CombineP.{CombineP}
+use Rattle.jet_wire.specs.Lending.{conveyor_of, router_of}
+use Rattle.jet_wire.specs.declared.receiver.Receiver.{Receiver}
+use Rattle.jet_wire.specs.declared.sender.Sender.{Sender}
 use Rattle.jet_stages.specs.contracts.stamp.StampProcessor.TheImpl as stamp
 use Rattle.jet_stages.specs.contracts.map.MapPProcessor.TheImpl as map
 use Rattle.jet_stages.specs.contracts.filter.FilterPProcessor.TheImpl as filter
@@ -38,7 +42,7 @@ pub record Kind (P : Type 0) : Type 1 where
   pub sound_if : P → (ℕ → ℕ → Bool) → List CallEntry → Type 0
   pub closed_if : P → List CallEntry → Type 0
 
--- the seven kinds
+-- the seven kinds of processors
 abbrev pub stamps : Kind Stamp
 stamps = record {
   stands = (stamp.ghosts).stands;
@@ -144,52 +148,71 @@ combines = record {
   closed_if = (combine.ghosts).closed_if;
 }
 
--- what is said of tasklets of every kind, said of one
-abbrev pub OfKind : ((P : Type 0) → Kind P → Tasklet P → Type 0) → AnyTasklet → Type 0
-OfKind C (any.Stamp t) = C Stamp stamps t
-OfKind C (any.Map t) = C MapP maps t
-OfKind C (any.Filter t) = C FilterP filters t
-OfKind C (any.Flat t) = C FlatP flats t
-OfKind C (any.Join t) = C JoinP joins t
-OfKind C (any.Frame t) = C FrameP frames t
-OfKind C (any.Combine t) = C CombineP combines t
+-- what is said of tasklets of every kind, said of one: of one that runs a processor, of a sender and of a receiver
+abbrev pub OfKind : ((P : Type 0) → Kind P → Tasklet P → Type 0) → (Sender → Type 0) → (Receiver → Type 0) → AnyTasklet → Type 0
+OfKind C S R (any.Stamp t) = C Stamp stamps t
+OfKind C S R (any.Map t) = C MapP maps t
+OfKind C S R (any.Filter t) = C FilterP filters t
+OfKind C S R (any.Flat t) = C FlatP flats t
+OfKind C S R (any.Join t) = C JoinP joins t
+OfKind C S R (any.Frame t) = C FrameP frames t
+OfKind C S R (any.Combine t) = C CombineP combines t
+OfKind C S R (any.Send s) = S s
+OfKind C S R (any.Receive r) = R r
 
 -- what is said of two tasklets of the same kind, said of two that are so
-abbrev pub OfKinds : ((P : Type 0) → Kind P → Tasklet P → Tasklet P → Type 0) → AnyTasklet → AnyTasklet → Type 0
-OfKinds C (any.Stamp t) (any.Stamp u) = C Stamp stamps t u
-OfKinds C (any.Map t) (any.Map u) = C MapP maps t u
-OfKinds C (any.Filter t) (any.Filter u) = C FilterP filters t u
-OfKinds C (any.Flat t) (any.Flat u) = C FlatP flats t u
-OfKinds C (any.Join t) (any.Join u) = C JoinP joins t u
-OfKinds C (any.Frame t) (any.Frame u) = C FrameP frames t u
-OfKinds C (any.Combine t) (any.Combine u) = C CombineP combines t u
-OfKinds C t u = ⊥
+abbrev pub OfKinds : ((P : Type 0) → Kind P → Tasklet P → Tasklet P → Type 0) → (Sender → Sender → Type 0) → (Receiver → Receiver → Type 0) → AnyTasklet → AnyTasklet → Type 0
+OfKinds C S R (any.Stamp t) (any.Stamp u) = C Stamp stamps t u
+OfKinds C S R (any.Map t) (any.Map u) = C MapP maps t u
+OfKinds C S R (any.Filter t) (any.Filter u) = C FilterP filters t u
+OfKinds C S R (any.Flat t) (any.Flat u) = C FlatP flats t u
+OfKinds C S R (any.Join t) (any.Join u) = C JoinP joins t u
+OfKinds C S R (any.Frame t) (any.Frame u) = C FrameP frames t u
+OfKinds C S R (any.Combine t) (any.Combine u) = C CombineP combines t u
+OfKinds C S R (any.Send s) (any.Send t) = S s t
+OfKinds C S R (any.Receive r) (any.Receive s) = R r s
+OfKinds C S R t u = ⊥
+
+-- what is said of tasklets that run a processor, said of one that does
+abbrev pub OfProcessor : ((P : Type 0) → Kind P → Tasklet P → Type 0) → AnyTasklet → Type 0
+OfProcessor C t = OfKind C (λ s. ⊥) (λ r. ⊥) t
+
+-- a tasklet runs a processor: it is no end of a link
+abbrev pub RunsProcessor : AnyTasklet → Type 0
+RunsProcessor t = OfProcessor (λ P k u. Unit {0}) t
+
+-- what is said of a sender and a receiver, said of two tasklets that are so
+abbrev pub OfLink : (Sender → Receiver → Type 0) → AnyTasklet → AnyTasklet → Type 0
+OfLink C (any.Send s) (any.Receive r) = C s r
+OfLink C t u = ⊥
 
 -- a change that tasklets of every kind can undergo, of one
-abbrev pub changed : ((P : Type 0) → Tasklet P → Tasklet P) → AnyTasklet → AnyTasklet
-changed f (any.Stamp t) = any.Stamp (f Stamp t)
-changed f (any.Map t) = any.Map (f MapP t)
-changed f (any.Filter t) = any.Filter (f FilterP t)
-changed f (any.Flat t) = any.Flat (f FlatP t)
-changed f (any.Join t) = any.Join (f JoinP t)
-changed f (any.Frame t) = any.Frame (f FrameP t)
-changed f (any.Combine t) = any.Combine (f CombineP t)
+abbrev pub changed : ((P : Type 0) → Tasklet P → Tasklet P) → (Sender → Sender) → (Receiver → Receiver) → AnyTasklet → AnyTasklet
+changed f g h (any.Stamp t) = any.Stamp (f Stamp t)
+changed f g h (any.Map t) = any.Map (f MapP t)
+changed f g h (any.Filter t) = any.Filter (f FilterP t)
+changed f g h (any.Flat t) = any.Flat (f FlatP t)
+changed f g h (any.Join t) = any.Join (f JoinP t)
+changed f g h (any.Frame t) = any.Frame (f FrameP t)
+changed f g h (any.Combine t) = any.Combine (f CombineP t)
+changed f g h (any.Send s) = any.Send (g s)
+changed f g h (any.Receive r) = any.Receive (h r)
 
--- the inputs of a tasklet of any kind, and its outputs
+-- what a contract sees of a tasklet of any kind
+abbrev pub seen : {X : Type 0} → ((P : Type 0) → Tasklet P → X) → (Sender → X) → (Receiver → X) → AnyTasklet → X
+seen f g h (any.Stamp t) = f Stamp t
+seen f g h (any.Map t) = f MapP t
+seen f g h (any.Filter t) = f FilterP t
+seen f g h (any.Flat t) = f FlatP t
+seen f g h (any.Join t) = f JoinP t
+seen f g h (any.Frame t) = f FrameP t
+seen f g h (any.Combine t) = f CombineP t
+seen f g h (any.Send s) = g s
+seen f g h (any.Receive r) = h r
+
+-- the inputs of a tasklet of any kind, and its outputs: a sender has one input, of the stream, and no output, and a receiver one output and no input
 abbrev pub inputs_of : AnyTasklet → List Input
-inputs_of (any.Stamp t) = t.inputs.items
-inputs_of (any.Map t) = t.inputs.items
-inputs_of (any.Filter t) = t.inputs.items
-inputs_of (any.Flat t) = t.inputs.items
-inputs_of (any.Join t) = t.inputs.items
-inputs_of (any.Frame t) = t.inputs.items
-inputs_of (any.Combine t) = t.inputs.items
+inputs_of t = seen (λ P u. u.inputs.items) (λ s. record { port = Stream; conveyor = conveyor_of s } ∷ []) (λ r. []) t
 
 abbrev pub outputs_of : AnyTasklet → List Output
-outputs_of (any.Stamp t) = t.outputs.items
-outputs_of (any.Map t) = t.outputs.items
-outputs_of (any.Filter t) = t.outputs.items
-outputs_of (any.Flat t) = t.outputs.items
-outputs_of (any.Join t) = t.outputs.items
-outputs_of (any.Frame t) = t.outputs.items
-outputs_of (any.Combine t) = t.outputs.items
+outputs_of t = seen (λ P u. u.outputs.items) (λ s. []) (λ r. record { router = router_of r; had = false } ∷ []) t

@@ -1,5 +1,4 @@
 pub mod Any
-pub mod AnyOrder
 pub mod AnyOver
 pub mod Over
 pub mod DoneLast
@@ -9,6 +8,7 @@ pub mod JoinWaits
 pub mod Keeps
 pub mod Kinds
 pub mod Lending
+pub mod Links
 pub mod MarksGiven
 pub mod Meeting
 pub mod Merging

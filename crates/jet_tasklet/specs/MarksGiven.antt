@@ -20,6 +20,10 @@ use Rattle.jet_tasklet.specs.declared.step.Step.TheVariants as step
 use Rattle.jet_tasklet.specs.declared.tasklet.Tasklet.{Tasklet}
 use Rattle.jet_tasklet.specs.Inputs.{InputView, inputs_view, received, dones, queue_count}
 use Rattle.jet_tasklet.specs.Kinds.{OfKind}
+use Rattle.jet_tasklet.specs.Links.{SendIsAtRest, ReceiveIsAtRest}
+use Rattle.jet_tasklet.specs.Views.{ins}
+use Rattle.jet_wire.specs.Receiver.{receiver_view}
+use Rattle.jet_wire.specs.Sender.{sender_view}
 
 -- what a processor gives for what it takes has the same marks, in their order
 abbrev pub PassMarks : (List CallEntry → List Item → Type 0) → Type 0
@@ -40,23 +44,19 @@ pub record IsOfFront (lag grain : ℤ) (inputs : List InputView) (t : ℤ) : Typ
   pub parts : events_of (get_or (received Stream inputs) queue []) ≡ front ++ rest
   pub has : mark_of lag grain (map (λ e. e.ts) front) ≡ Some t
 
--- a tasklet may give it: a stamp the marks of its files' events, and all others the marks that they received
+-- a tasklet may give it: a stamp the marks of its files' events, and all others the marks that their queues received
 abbrev pub AnyMayGive : AnyTasklet → ℤ → Type 0
 AnyMayGive (any.Stamp t) m = IsOfFront t.processor.lag t.processor.grain (inputs_view t.inputs.items) m
-AnyMayGive (any.Map t) m = IsReceived (inputs_view t.inputs.items) m
-AnyMayGive (any.Filter t) m = IsReceived (inputs_view t.inputs.items) m
-AnyMayGive (any.Flat t) m = IsReceived (inputs_view t.inputs.items) m
-AnyMayGive (any.Join t) m = IsReceived (inputs_view t.inputs.items) m
-AnyMayGive (any.Frame t) m = IsReceived (inputs_view t.inputs.items) m
-AnyMayGive (any.Combine t) m = IsReceived (inputs_view t.inputs.items) m
+AnyMayGive t m = IsReceived (ins t) m
 
 -- nothing is pending and nothing waits in the outbox
 pub record IsAtRest {P : Type 0} (t : Tasklet P) : Type 0 where
   pub sent : t.outbox.items ≡ []
   pub free : t.step ≡ step.Poll
 
+-- an end of a link holds nothing
 abbrev pub AnyIsAtRest : AnyTasklet → Type 0
-AnyIsAtRest t = OfKind (λ P k u. IsAtRest u) t
+AnyIsAtRest t = OfKind (λ P k u. IsAtRest u) (λ s. SendIsAtRest (sender_view s)) (λ r. ReceiveIsAtRest (receiver_view r)) t
 
 -- the last mark of a list, if there is one
 abbrev pub last_mark : List Item → Option ℤ
@@ -107,12 +107,7 @@ FilesReached lag grain inputs s = (q : ℕ) → q < queue_count Stream inputs �
 -- each stream queue that is not done has reached s: a stamp, which has a marker for each of its queues and waits for one of them, by the events that those received which are not idle, and all others by their marks
 abbrev pub AnyAllReached : AnyTasklet → ℤ → Type 0
 AnyAllReached (any.Stamp t) s = (length t.processor.markers.items ≡ queue_count Stream (inputs_view t.inputs.items)) × HasAwake (inputs_view t.inputs.items) × FilesReached t.processor.lag t.processor.grain (inputs_view t.inputs.items) s
-AnyAllReached (any.Map t) s = AllReached (inputs_view t.inputs.items) s
-AnyAllReached (any.Filter t) s = AllReached (inputs_view t.inputs.items) s
-AnyAllReached (any.Flat t) s = AllReached (inputs_view t.inputs.items) s
-AnyAllReached (any.Join t) s = AllReached (inputs_view t.inputs.items) s
-AnyAllReached (any.Frame t) s = AllReached (inputs_view t.inputs.items) s
-AnyAllReached (any.Combine t) s = AllReached (inputs_view t.inputs.items) s
+AnyAllReached t s = AllReached (ins t) s
 
 abbrev pub IsLowIf : ℕ → ℤ → ℤ → List CallEntry → Option ℤ → Type 0
 IsLowIf n lag grain taken None = ⊥
@@ -121,9 +116,4 @@ IsLowIf n lag grain taken (Some t) = IsLow n lag grain taken t
 -- what the last mark is to be: of a stamp to which these items came the watermark of what it was told, and of all others the least of the greatest marks received
 abbrev pub AnyIsLow : AnyTasklet → List Arrival → Option ℤ → Type 0
 AnyIsLow (any.Stamp t) came low = IsLowIf (length t.processor.markers.items) t.processor.lag t.processor.grain (told step.Poll (queue_count Stream (inputs_view t.inputs.items)) came) low
-AnyIsLow (any.Map t) came low = low_received (inputs_view t.inputs.items) ≡ low
-AnyIsLow (any.Filter t) came low = low_received (inputs_view t.inputs.items) ≡ low
-AnyIsLow (any.Flat t) came low = low_received (inputs_view t.inputs.items) ≡ low
-AnyIsLow (any.Join t) came low = low_received (inputs_view t.inputs.items) ≡ low
-AnyIsLow (any.Frame t) came low = low_received (inputs_view t.inputs.items) ≡ low
-AnyIsLow (any.Combine t) came low = low_received (inputs_view t.inputs.items) ≡ low
+AnyIsLow t came low = low_received (ins t) ≡ low

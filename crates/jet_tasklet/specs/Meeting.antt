@@ -11,8 +11,12 @@ use Rattle.jet_tasklet.specs.declared.tasklet.Tasklet.{Tasklet}
 use Rattle.jet_tasklet.specs.declared.any.AnyTasklet.{AnyTasklet}
 use Rattle.jet_tasklet.specs.Inputs.{InputView, inputs_view}
 use Rattle.jet_tasklet.specs.Outputs.{OutputView, outputs_view}
-use Rattle.jet_tasklet.specs.Kinds.{OfKinds}
+use Rattle.jet_tasklet.specs.Kinds.{OfKinds, OfLink}
 use Rattle.jet_tasklet.specs.Keeps.{Stays}
+use Rattle.jet_tasklet.specs.Links.{SameSend, SameReceive}
+use Rattle.jet_link.specs.Meeting.{IsLink, BothMet, SendMet, RecvMet}
+use Rattle.jet_wire.specs.Receiver.{ReceiverView, receiver_view}
+use Rattle.jet_wire.specs.Sender.{SenderView, sender_view}
 use Rattle.jet_tasklet.specs.Any.{AnyKeeps}
 use Rattle.jet_tasklet.specs.Views.{ins, outs, waiting, step_of}
 
@@ -79,9 +83,9 @@ pub record TakerMet {P : Type 0} (stands : P → List CallEntry → List Item �
   pub inputs : InputMet (inputs_view a.inputs.items) (inputs_view b.inputs.items) i q
   pub rest : b ≡ record a { inputs = b.inputs }
 
--- two tasklets have the same processor
+-- two tasklets have the same processor, or are the same end of a link but for its queues or its router
 abbrev pub HaveSameProcessor : AnyTasklet → AnyTasklet → Type 0
-HaveSameProcessor t u = OfKinds (λ P k a b. b.processor ≡ a.processor) t u
+HaveSameProcessor t u = OfKinds (λ P k a b. b.processor ≡ a.processor) (λ a b. SameSend (sender_view a) (sender_view b)) (λ a b. SameReceive (receiver_view a) (receiver_view b)) t u
 
 -- the same of a tasklet of any kind
 pub record AnyGiverMet (t u : AnyTasklet) (o d : ℕ) : Type 0 where
@@ -99,3 +103,28 @@ pub record AnyTakerMet (t u : AnyTasklet) (i q : ℕ) : Type 0 where
   pub outbox : waiting u ≡ waiting t
   pub step : step_of u ≡ step_of t
   pub processor : HaveSameProcessor t u
+
+-- two tasklets are the two ends of one link: a sender and a receiver
+abbrev pub AreLinkEnds : AnyTasklet → AnyTasklet → Type 0
+AreLinkEnds t u = OfLink (λ s r. IsLink (sender_view s).end (receiver_view r).end) t u
+
+-- they have met: of both rings of the link all that was sent is received or known, every other slot is known to be free, and the definition of links holds
+abbrev pub HaveMetByLink : AnyTasklet → AnyTasklet → Type 0
+HaveMetByLink t u = OfLink (λ s r. BothMet (sender_view s).end (receiver_view r).end) t u
+
+-- a sender met its receiver: what its end of the link knows may have grown, and nothing else changed
+pub record SendLinkMet (a b : SenderView) : Type 0 where
+  pub end : SendMet a.end b.end
+  pub rest : b ≡ record a { end = b.end }
+
+-- and a receiver its sender
+pub record ReceiveLinkMet (a b : ReceiverView) : Type 0 where
+  pub end : RecvMet a.end b.end
+  pub rest : b ≡ record a { end = b.end }
+
+-- a tasklet that is an end of a link met the other: nothing came or was given, and nothing but the end of the link changed
+pub record AnyLinkMet (t u : AnyTasklet) : Type 0 where
+  pub keeps : (came : List Arrival) (gave : List Item) → AnyKeeps t came gave → AnyKeeps u came gave
+  pub inputs : ins u ≡ ins t
+  pub outputs : outs u ≡ outs t
+  pub end : OfKinds (λ P k a b. ⊥) (λ a b. SendLinkMet (sender_view a) (sender_view b)) (λ a b. ReceiveLinkMet (receiver_view a) (receiver_view b)) t u

@@ -7,8 +7,8 @@ use Rattle.jet_boxes.specs.Entry.{CallEntry}
 use Rattle.jet_ring.specs.Ring.{TxView}
 use Rattle.jet_router.specs.Router as router
 use Rattle.jet_tasklet.specs.declared.arrival.Arrival.{Arrival}
-use Rattle.jet_tasklet.specs.declared.progress.Progress.{Progress}
-use Rattle.jet_tasklet.specs.declared.progress.Progress.TheVariants as progress
+use Rattle.jet_wire.specs.declared.progress.Progress.{Progress}
+use Rattle.jet_wire.specs.declared.progress.Progress.TheVariants as progress
 use Rattle.jet_tasklet.specs.declared.tasklet.Tasklet.{Tasklet}
 use Rattle.jet_tasklet.specs.declared.any.AnyTasklet.{AnyTasklet}
 use Rattle.jet_tasklet.specs.Inputs.{InputView, inputs_view, received_count}
@@ -17,7 +17,12 @@ use Rattle.jet_tasklet.specs.Keeps.{Keeps, Stays, Goes}
 use Rattle.jet_tasklet.specs.Turned.{Turned}
 use Rattle.jet_tasklet.specs.Turning.{HasEnded, IsBlocked, IsStarved, Moves, IsStill}
 use Rattle.jet_tasklet.specs.Any.{AnyKeeps, AnyStays, AnyGoes, AnyTurned, AnyMoves, AnyIsStill, AnyHasEnded, AnyIsBlocked, AnyIsStarved}
-use Rattle.jet_tasklet.specs.Views.{ins, outs, waiting}
+use Rattle.jet_tasklet.specs.Kinds.{seen}
+use Rattle.jet_tasklet.specs.Views.{waiting}
+use Rattle.jet_wire.specs.Receiver.{receiver_view}
+use Rattle.jet_wire.specs.ReceiverTurn.{moved_count as receiver_moves}
+use Rattle.jet_wire.specs.Sender.{sender_view}
+use Rattle.jet_wire.specs.SenderTurn.{move_count as sender_moves}
 
 -- the tasklet has gone on, and its ends stay those of their rings
 pub record Went {P : Type 0} (stands : P → List CallEntry → List Item → Type 0) (amid : P → List CallEntry → CallEntry → List Item → Type 0) (takes : P → Port → ℕ → Type 0) (same : P → P → Type 0) (a b : Tasklet P) : Type 0 where
@@ -84,9 +89,13 @@ AnySaid progress.Moved t u = AnyMoves t u
 AnySaid progress.Idle t u = AnyRests t u × (AnyIsBlocked u ⊎ AnyIsStarved u)
 AnySaid progress.Done t u = AnyRests t u × AnyHasEnded u
 
+-- how many items, packets and acknowledgements moved: of a tasklet which gave these items, and of an end of a link
+abbrev pub any_move_count : AnyTasklet → List Item → ℕ
+any_move_count t gave = seen (λ P u. move_count (inputs_view u.inputs.items) (outputs_view u.outputs.items) (gave ++ u.outbox.items)) (λ s. sender_moves (sender_view s)) (λ r. receiver_moves (receiver_view r)) t
+
 pub record AnyCounted (says : Progress) (t u : AnyTasklet) (came : List Arrival) (gave : List Item) : Type 0 where
   pub more : List Arrival
   pub given : List Item
   pub keeps : AnyKeeps u (came ++ more) (gave ++ given)
   pub entered : IsPrefix (gave ++ waiting t) ((gave ++ given) ++ waiting u)
-  pub counts : Counts says (move_count (ins t) (outs t) (gave ++ waiting t)) (move_count (ins u) (outs u) ((gave ++ given) ++ waiting u))
+  pub counts : Counts says (any_move_count t gave) (any_move_count u (gave ++ given))

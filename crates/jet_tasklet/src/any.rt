@@ -1,9 +1,10 @@
-// A tasklet of any kind, so that tasklets stand together in one list.
+// A tasklet of any kind, so that tasklets stand together in one list: one that runs a processor, or an end of a link to
+// another member.
 ghost use Rattle.std.specs.Prelude.{ℕ, List, ◌≡◌, ◌<◌, ◌⊎◌, length, map, Ok, OnErr, Some, slice_get};
 ghost use Rattle.std.specs.Borrow.{sem, Lends};
 ghost use Rattle.jet_conveyor.specs.contracts.conveyor.Conveyor as conveyor;
 ghost use Rattle.jet_router.specs.contracts.router.Router as router;
-ghost use Rattle.jet_tasklet.specs.declared.progress.Progress.TheVariants as progress;
+ghost use Rattle.jet_wire.specs.declared.progress.Progress.TheVariants as progress;
 
 use crate::{Progress, Tasklet};
 use jet_conveyor::Conveyor;
@@ -12,8 +13,10 @@ use jet_join::JoinP;
 use jet_router::Router;
 use jet_stages::{FilterP, FlatP, MapP, Stamp};
 use jet_window::{CombineP, FrameP};
+use jet_wire::{Receiver, Sender};
 
-/// A tasklet of any of the kinds of processors.
+/// A tasklet of any of the kinds of processors, or an end of a link: a sender, which has the one input 0 and no output, or
+/// a receiver, which has the one output 0 and no input.
 ///
 /// It may cross to another thread. The prover of a crate above is told so where it asks: the answer there is
 /// `search (sendable, any_send) depth 20`, with `any_send` of this crate's `proofs/Crossing.antt`.
@@ -26,11 +29,13 @@ pub enum AnyTasklet {
     Join(Tasklet<JoinP>),
     Frame(Tasklet<FrameP>),
     Combine(Tasklet<CombineP>),
+    Send(Sender),
+    Receive(Receiver),
 }
 
 impl AnyTasklet {
     ghost use Rattle.jet_tasklet.specs.contracts.any.AnyTasklet.{the_row};
-    ghost use Rattle.jet_tasklet.specs.Kinds.{inputs_of, outputs_of};
+    ghost use Rattle.jet_tasklet.specs.Kinds.{inputs_of, outputs_of, RunsProcessor};
     ghost use Rattle.jet_tasklet.specs.Views.{step_of};
     ghost use Rattle.jet_tasklet.specs.Wanting.{IsWanting};
     ghost use Rattle.jet_items.specs.declared.item.Item.{Item};
@@ -64,24 +69,29 @@ impl AnyTasklet {
             AnyTasklet::Join(tasklet) => tasklet.turn(),
             AnyTasklet::Frame(tasklet) => tasklet.turn(),
             AnyTasklet::Combine(tasklet) => tasklet.turn(),
+            AnyTasklet::Send(sender) => Ok(sender.turn()),
+            AnyTasklet::Receive(receiver) => Ok(receiver.turn()),
         }
     }
 
-    /// A meeting of an end that the tasklet has lent out leaves what came to it, what it gave and what it keeps.
+    /// A meeting of an end that the tasklet has lent out leaves what came to it, what it gave and what it keeps. It speaks of
+    /// tasklets that run a processor; `input` and `output` say the same of all.
     pub fn law_keeps_at_meetings(&self)
-        ensures input { (came : List Arrival) → (gave : List Item) → (n q : ℕ) → (was w : Conveyor) → AnyKeeps self.now came gave
+        ensures input { RunsProcessor self.now → (came : List Arrival) → (gave : List Item) → (n q : ℕ) → (was w : Conveyor) → AnyKeeps self.now came gave
             → slice_get (map (λ i. i.conveyor) (inputs_of self.now)) n ≡ Some was → conveyors.Refreshed (conveyors.view was) (conveyors.view w) q
             → AnyKeeps (any_with_input self.now n was w) came gave }
-        ensures output { (came : List Arrival) → (gave : List Item) → (n d : ℕ) → (was w : Router) → AnyKeeps self.now came gave
+        ensures output { RunsProcessor self.now → (came : List Arrival) → (gave : List Item) → (n d : ℕ) → (was w : Router) → AnyKeeps self.now came gave
             → slice_get (map (λ o. o.router) (outputs_of self.now)) n ≡ Some was → routers.Refreshed (routers.view was) (routers.view w) d
             → AnyKeeps (any_with_output self.now n was w) came gave }
     {}
 
-    /// The conveyor of one input, for meetings with the other ends of its queues.
+    /// The conveyor of one input, for meetings with the other ends of its queues. A meeting leaves what the tasklet keeps.
     pub fn input(&mut self, n: u32) -> &mut Conveyor
         requires { n < length (inputs_of self.old) }
         ensures* writes_back { sem 𝓛 (Lends the_row conveyor.the_row self.entry result (any_with_input self.entry.now n result.now)) }
         ensures value { slice_get (map (λ i. i.conveyor) (inputs_of self.old)) n ≡ Some result.now }
+        ensures meets { (came : List Arrival) → (gave : List Item) → (q : ℕ) → (w : Conveyor) → AnyKeeps self.old came gave
+            → conveyors.Refreshed (conveyors.view result.now) (conveyors.view w) q → AnyKeeps (any_with_input self.old n result.now w) came gave }
     {
         match self {
             AnyTasklet::Stamp(tasklet) => tasklet.input(n),
@@ -91,14 +101,18 @@ impl AnyTasklet {
             AnyTasklet::Join(tasklet) => tasklet.input(n),
             AnyTasklet::Frame(tasklet) => tasklet.input(n),
             AnyTasklet::Combine(tasklet) => tasklet.input(n),
+            AnyTasklet::Send(sender) => sender.conveyor(),
+            AnyTasklet::Receive(_) => unreachable!(),
         }
     }
 
-    /// The router of one output, for meetings with the other ends of its destinations.
+    /// The router of one output, for meetings with the other ends of its destinations. A meeting leaves what the tasklet keeps.
     pub fn output(&mut self, n: u32) -> &mut Router
         requires { n < length (outputs_of self.old) }
         ensures* writes_back { sem 𝓛 (Lends the_row router.the_row self.entry result (any_with_output self.entry.now n result.now)) }
         ensures value { slice_get (map (λ o. o.router) (outputs_of self.old)) n ≡ Some result.now }
+        ensures meets { (came : List Arrival) → (gave : List Item) → (d : ℕ) → (w : Router) → AnyKeeps self.old came gave
+            → routers.Refreshed (routers.view result.now) (routers.view w) d → AnyKeeps (any_with_output self.old n result.now w) came gave }
     {
         match self {
             AnyTasklet::Stamp(tasklet) => tasklet.output(n),
@@ -108,6 +122,8 @@ impl AnyTasklet {
             AnyTasklet::Join(tasklet) => tasklet.output(n),
             AnyTasklet::Frame(tasklet) => tasklet.output(n),
             AnyTasklet::Combine(tasklet) => tasklet.output(n),
+            AnyTasklet::Send(_) => unreachable!(),
+            AnyTasklet::Receive(receiver) => receiver.router(),
         }
     }
 }

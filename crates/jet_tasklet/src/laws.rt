@@ -4,7 +4,7 @@ ghost use Rattle.jet_items.specs.declared.item.Item.{Item};
 ghost use Rattle.jet_boxes.specs.Calls.{Call, MayCall};
 ghost use Rattle.jet_tasklet.specs.declared.arrival.Arrival.{Arrival};
 ghost use Rattle.jet_tasklet.specs.declared.step.Step.TheVariants as step;
-ghost use Rattle.jet_tasklet.specs.declared.progress.Progress.TheVariants as progress;
+ghost use Rattle.jet_wire.specs.declared.progress.Progress.TheVariants as progress;
 ghost use Rattle.jet_tasklet.specs.Steps.{entry_of, next_of};
 
 use crate::Tasklet;

@@ -1,4 +1,5 @@
-// Meetings of the two ends of one ring: between two tasklets, and between a tasklet and an end from outside.
+// Meetings of the two ends of one ring: between two tasklets, and between a tasklet and an end from outside; and of the
+// two ends of a link, which are two rings.
 ghost use Rattle.std.specs.Prelude.{◌≡◌, ◌≤◌, ◌++◌, length, List};
 ghost use Rattle.jet_items.specs.declared.item.Item.{Item};
 ghost use Rattle.jet_ring.specs.Ring as ring;
@@ -7,13 +8,14 @@ ghost use Rattle.jet_conveyor.specs.Conveyor as conveyors;
 ghost use Rattle.jet_tasklet.specs.Inputs.{inputs_view};
 ghost use Rattle.jet_tasklet.specs.Outputs.{outputs_view};
 ghost use Rattle.jet_tasklet.specs.Views.{ins, outs};
-ghost use Rattle.jet_tasklet.specs.Meeting.{HasEnd, HasQueue, IsQueue, AreJoined, HaveMet, EndsMet, GiverMet, TakerMet, AnyGiverMet, AnyTakerMet};
+ghost use Rattle.jet_tasklet.specs.Meeting.{HasEnd, HasQueue, IsQueue, AreJoined, HaveMet, EndsMet, GiverMet, TakerMet, AnyGiverMet, AnyTakerMet, AreLinkEnds, HaveMetByLink, AnyLinkMet};
 
 use crate::{AnyTasklet, Tasklet};
 use jet_boxes::Processor;
 use jet_conveyor::Conveyor;
 use jet_items::Item;
 use jet_ring::Tx;
+use jet_wire::refresh_link;
 
 impl<P: Processor> Tasklet<P> {
     /// The ring from a destination of this tasklet to a queue of another meets.
@@ -81,4 +83,21 @@ pub fn meet_sink(
 {
     let tx = giver.output(output).tx(dest);
     let _ = conveyor.refresh_queue(queue, tx);
+}
+
+/// The two ends of a link meet: of both its rings. Each tasklet keeps what it keeps, and neither gives or takes anything.
+pub fn meet_link(sender: &mut AnyTasklet, receiver: &mut AnyTasklet)
+    requires joined { AreLinkEnds sender.old receiver.old }
+    ensures joined { AreLinkEnds sender.new receiver.new }
+    ensures met { HaveMetByLink sender.new receiver.new }
+    ensures sender { AnyLinkMet sender.old sender.new }
+    ensures receiver { AnyLinkMet receiver.old receiver.new }
+{
+    let AnyTasklet::Send(from) = sender else {
+        unreachable!()
+    };
+    let AnyTasklet::Receive(to) = receiver else {
+        unreachable!()
+    };
+    let _ = refresh_link(from, to);
 }

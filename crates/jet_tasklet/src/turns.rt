@@ -2,7 +2,7 @@
 ghost use Rattle.std.specs.Prelude.{◌≡◌, List};
 ghost use Rattle.jet_items.specs.declared.item.Item.{Item};
 ghost use Rattle.jet_tasklet.specs.declared.arrival.Arrival.{Arrival};
-ghost use Rattle.jet_tasklet.specs.declared.progress.Progress.{Progress};
+ghost use Rattle.jet_wire.specs.declared.progress.Progress.{Progress};
 ghost use Rattle.jet_tasklet.specs.Inputs.{inputs_view};
 ghost use Rattle.jet_tasklet.specs.Outputs.{outputs_view};
 ghost use Rattle.jet_tasklet.specs.Keeps.{Keeps, IsLawful};

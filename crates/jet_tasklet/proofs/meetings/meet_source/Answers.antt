@@ -18,7 +18,7 @@ pub returns : goal.returns
 returns c =
     let in_ = c.requires.joined.1 in
     let now = c.refresh_queue.new.self in
-    let taker = any_taker_met c.args.taker.now c.args.input c.args.queue in_.input c.input.result.now now in_.at c.input.ensures.value c.refresh_queue.ensures.view in
+    let taker = any_taker_met c.args.taker.now c.args.input c.args.queue in_.input c.input.result.now now in_.at c.input.ensures.value c.refresh_queue.ensures.view (λ came gave k. c.input.ensures.meets came gave c.args.queue c.refresh_queue.new.self k c.refresh_queue.ensures.view) in
     let queue_is = queue_lent (inputs_of c.args.taker.now) c.args.input c.args.queue c.requires.joined.0 c.input.result.now in_ c.input.ensures.value in
     let at = queue_ring (conveyor.view c.input.result.now) c.args.queue c.requires.joined.0 (tx_ring c.args.tx.now) queue_is c.requires.joined.2 in
     let end = queue_end (conveyor.view now) c.args.queue (tx_ring c.args.tx.now) in

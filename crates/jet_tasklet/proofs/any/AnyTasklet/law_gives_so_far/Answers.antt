@@ -1,5 +1,6 @@
 use Rattle.std.proofs.Common.{sym, subst}
 use Rattle.jet_tasklet.proofs.AnyEnds.{GivesMarksSoFar, GivesSoFar}
+use Rattle.jet_tasklet.proofs.Linking.{send_so_far}
 use Rattle.jet_tasklet.proofs.any.AnyTasklet.law_gives_so_far.Goals as goal
 
 pub returns-in-Stamp-clause-bag : goal.returns-in-Stamp-clause-bag
@@ -43,3 +44,15 @@ returns-in-Combine-clause-bag c = subst GivesSoFar (sym c.in-Combine.is) c.law_g
 
 pub returns-in-Combine-clause-marks : goal.returns-in-Combine-clause-marks
 returns-in-Combine-clause-marks c = subst GivesMarksSoFar (sym c.in-Combine.is) c.law_gives_so_far-in-Combine.ensures.marks
+
+pub returns-in-Send-clause-bag : goal.returns-in-Send-clause-bag
+returns-in-Send-clause-bag c = subst GivesSoFar (sym c.in-Send.is) (λ came gave k. send_so_far _ came gave k)
+
+pub returns-in-Send-clause-marks : goal.returns-in-Send-clause-marks
+returns-in-Send-clause-marks c = subst GivesMarksSoFar (sym c.in-Send.is) (λ came gave k. send_so_far _ came gave k)
+
+pub returns-in-Receive-clause-bag : goal.returns-in-Receive-clause-bag
+returns-in-Receive-clause-bag c = subst GivesSoFar (sym c.in-Receive.is) (λ came gave k. k.came_is)
+
+pub returns-in-Receive-clause-marks : goal.returns-in-Receive-clause-marks
+returns-in-Receive-clause-marks c = subst GivesMarksSoFar (sym c.in-Receive.is) (λ came gave k. k.came_is)
