@@ -1,3 +1,4 @@
+pub mod Bags
 pub mod Coming
 pub mod Counting
 pub mod Dealing
@@ -8,8 +9,10 @@ pub mod Going
 pub mod Heard
 pub mod Lent
 pub mod Meeting
+pub mod Merged
 pub mod Packets
 pub mod Passing
 pub mod ReceiverTurns
+pub mod SenderLaws
 pub mod Sending
 pub mod Turning

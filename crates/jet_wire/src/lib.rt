@@ -7,6 +7,7 @@
 //! says why (`SenderRests`, `ReceiverRests`). The bytes on the way are bounded by the link below (`jet_link`).
 #![tactic(auto)]
 
+mod laws;
 mod lend;
 mod meetings;
 mod note;
