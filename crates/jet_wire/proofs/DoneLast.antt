@@ -63,7 +63,7 @@ pub not_all : (n : ℕ) (f : ℕ → List Item) (q : ℕ) → q < n → has_ende
 not_all n f q lt still = unless_true (all_done (histories n f)) (λ all. clash (has_ended (f q)) (each_there n f all q lt) still)
 
 -- ---- one item more after items without a Done
-none_has : (xs : List Item) → All NotDone xs → has_ended xs ≡ false
+pub none_has : (xs : List Item) → All NotDone xs → has_ended xs ≡ false
 none_has [] h = refl
 none_has (x ∷ xs) h = or_none (is_done x) (has_ended xs) (All-head NotDone x xs h) (none_has xs (All-tail NotDone x xs h))
 

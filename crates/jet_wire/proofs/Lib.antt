@@ -4,14 +4,17 @@ pub mod Counting
 pub mod Dealing
 pub mod DoneLast
 pub mod Edges
+pub mod Ending
 pub mod Fresh
 pub mod Going
 pub mod Heard
+pub mod InARow
 pub mod Lent
 pub mod Meeting
 pub mod Merged
 pub mod Packets
 pub mod Passing
+pub mod Periods
 pub mod ReceiverTurns
 pub mod SenderLaws
 pub mod Sending

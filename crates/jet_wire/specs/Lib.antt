@@ -12,3 +12,4 @@ pub mod ReceiverTurn
 pub mod Sender
 pub mod SenderSteps
 pub mod SenderTurn
+pub mod Turns
