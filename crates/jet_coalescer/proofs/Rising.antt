@@ -96,17 +96,18 @@ greater_is (Some s) (Some t) h = ap Some (not_less (int_lt t s) refl (h s refl))
 abbrev RisesAlone : List Queue → List Queue → Type 0
 RisesAlone before after = (s : ℤ) → HaveReached before s → HaveReached after s
 
-record Left (qs : List Queue) : Type 0 where
-  q : ℕ
-  queue : Queue
-  is : slice_get qs q ≡ Some queue
-  counted : counts queue ≡ true
+pub record Left (qs : List Queue) : Type 0 where
+  pub q : ℕ
+  pub queue : Queue
+  pub is : slice_get qs q ≡ Some queue
+  pub counted : counts queue ≡ true
 
 left_next : (done : Bool) (marks : List ℤ) (told : List History) → (all_done told ≡ false → Left (map known told)) → (done && all_done told) ≡ false → Left (map known (record { marks = marks; done = done } ∷ told))
 left_next true marks told rest left = let later = rest left in record { q = suc later.q; queue = later.queue; is = later.is; counted = later.counted }
 left_next false marks told rest left = record { q = 0; queue = known (record { marks = marks; done = false }); is = refl; counted = refl }
 
-some_left : (told : List History) → all_done told ≡ false → Left (map known told)
+-- a queue is left
+pub some_left : (told : List History) → all_done told ≡ false → Left (map known told)
 some_left [] left = cc
 some_left (h ∷ told) left = left_next h.done h.marks told (some_left told) left
 

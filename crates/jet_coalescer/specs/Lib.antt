@@ -1,3 +1,4 @@
+pub mod Laws
 pub mod Low
 pub mod Notes
 pub mod Queues

@@ -4,11 +4,12 @@
 //! Contracts see a coalescer as its queues, each with its greatest mark and whether it is done or idle, and the
 //! watermark (`specs/View.antt`). What it answers is promised of one list, all that it was told in order: the marks,
 //! Dones, idle notes and wakes of its queues (`specs/Notes.antt`). Where no queue was ever idle and one is left, it is
-//! what came from each queue that counts, and not in what order the queues came (`specs/Low.antt`).
+//! what came from each queue that counts, and not in what order the queues came (`specs/Low.antt`, `laws`).
 #![tactic(auto)]
 
 mod change;
 mod coalescer;
+mod laws;
 mod queue;
 mod queues;
 mod standing;
@@ -16,6 +17,7 @@ mod tournament;
 
 pub use change::Change;
 pub use coalescer::Coalescer;
+pub use laws::low_is_least;
 
 #[cfg(test)]
 mod tests;

@@ -1,6 +1,7 @@
 pub mod Acking
 pub mod Both
 pub mod Counting
+pub mod Emptied
 pub mod Ends
 pub mod Fresh
 pub mod Pushing

@@ -8,8 +8,8 @@ use Rattle.jet_ring.specs.declared.ends.Rx.{Rx}
 use Rattle.jet_link.specs.declared.packet.Packet.{Packet}
 use Rattle.jet_link.specs.declared.ack.Ack.{Ack}
 use Rattle.jet_link.specs.declared.shape.LinkShape.{LinkShape}
-use Rattle.jet_link.specs.Link.{PacketView, no_packet, RecvsRight, kept}
-use Rattle.jet_link.specs.Ends.{packet_view, ack_view, IsRecvEnd}
+use Rattle.jet_link.specs.Link.{PacketView, no_packet, RecvsRight, kept, bytes_of, offer_after, whole_processed, whole_offer}
+use Rattle.jet_link.specs.Ends.{packet_view, ack_view, recv_of, IsRecvEnd}
 use Rattle.jet_link.proofs.Counting.{bytes_front}
 use Rattle.jet_link.proofs.Ends.{honest_more, offer_more}
 
@@ -42,3 +42,17 @@ end_received l packets later acks p whole processed offer grant part turns e got
       period = e.period;
       few = e.few;
     }
+
+-- the bytes processed and the offer are those of the packets before
+pub counts_kept : (l : LinkShape) (packets later : Rx Packet) (acks : Tx Ack) (p : Packet) (whole : Bool) (processed offer grant part turns : ℕ)
+    → IsRecvEnd l packets acks None whole processed offer grant part turns → ring.received later ≡ ring.received packets ++ p ∷ []
+    → (whole_processed (recv_of later acks (Some p) whole processed offer grant) ≡ whole_processed (recv_of packets acks None whole processed offer grant))
+    × (whole_offer l (recv_of later acks (Some p) whole processed offer grant) ≡ whole_offer l (recv_of packets acks None whole processed offer grant))
+counts_kept l packets later acks p whole processed offer grant part turns e got =
+    let ps = map packet_view (ring.received packets) in
+    let gave = map ack_view (ring.sent acks) in
+    let more : map packet_view (ring.received later) ≡ ps ++ packet_view p ∷ [] = ap (map packet_view) got ∙ map_push packet_view (ring.received packets) p in
+    let top : length gave + cond whole 1 0 ≤ length ps = omega (arith, e.right.one, e.right.held) in (
+      ap (λ (w : List PacketView). bytes_of (length gave + cond whole 1 0) w) more ∙ bytes_front (length gave + cond whole 1 0) ps (packet_view p ∷ []) top,
+      ap (λ (w : List PacketView). offer_after l w gave (length gave)) more ∙ offer_more l (length gave) ps (packet_view p ∷ []) gave (omega (arith, top)),
+    )

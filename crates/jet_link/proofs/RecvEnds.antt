@@ -123,6 +123,13 @@ module _ (l : LinkShape) (packets : Rx Packet) (acks later : Tx Ack) (p : Packet
       last_offer (offer_after l ps old (length old)) (r.1 ∙ e.right.offer) (omega (arith, next, e.right.low, r.0, dist, lies_low)) (omega (arith, next, lies_high)) (omega arith)
       ∙ omega (arith, r.0, dist, lies_low, next, ap (λ (k : ℕ). bytes_of k ps) (one_more (length old)))
 
+-- the packet that was acknowledged was counted before
+module _ (l : LinkShape) (packets : Rx Packet) (acks later : Tx Ack) (p : Packet) (x : Ack) (processed offer grant new : ℕ) (got : ring.sent later ≡ ring.sent acks ++ x ∷ []) where
+  pub processed_kept : whole_processed (recv_of packets later None false processed new grant) ≡ whole_processed (recv_of packets acks (Some p) true processed offer grant)
+  processed_kept =
+      let long : length (map ack_view (ring.sent later)) + 0 ≡ length (map ack_view (ring.sent acks)) + 1 = omega (arith, length-map (ring.sent later) ack_view, length-map (ring.sent acks) ack_view, ap length got, length-append (ring.sent acks) (x ∷ [])) in
+      ap (λ (k : ℕ). bytes_of k (map packet_view (ring.received packets))) long
+
 -- an offer that cannot have been given back
 pub sent_ok : {T E : Type 0} (r : Result T E) {P Q : Type 0} → (IsErr r ↔ Q) → OnOk r P → (Q → ⊥) → P
 sent_ok (Ok x) cause p free = p

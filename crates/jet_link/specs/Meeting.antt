@@ -3,8 +3,8 @@ use Rattle.std.specs.Prelude.{◌≡◌, ◌+◌, ◌≤◌, [], ◌++◌, map, 
 use mathlib.Core.List.{IsPrefix}
 use Rattle.jet_ring.specs.Ring.{TxView, RxView}
 use Rattle.jet_link.specs.declared.shape.LinkShape.{LinkShape}
-use Rattle.jet_link.specs.Link.{LinkMet}
-use Rattle.jet_link.specs.Ends.{packet_view, ack_view}
+use Rattle.jet_link.specs.Link.{LinkMet, in_flight}
+use Rattle.jet_link.specs.Ends.{packet_view, ack_view, count_of}
 use Rattle.jet_link.specs.Views.{SendView, RecvView, send_state, recv_state}
 
 -- the two ends of one link
@@ -43,6 +43,18 @@ pub record BothMet (s : SendView) (r : RecvView) : Type 0 where
   pub packet_slots : s.packets.free + length r.packets.known ≡ s.packets.ring.cap
   pub ack_slots : r.acks.free + length s.acks.known ≡ r.acks.ring.cap
   pub link : LinkMet s.shape (send_state s) (recv_state r) (map packet_view r.packets.known) (map ack_view s.acks.known)
+
+-- nothing is on the way, neither a packet nor an acknowledgement: every byte that was sent is acknowledged, and every buffer is at the end that sends
+pub record IsEmptied (s : SendView) (r : RecvView) : Type 0 where
+  pub known : r.packets.known ≡ []
+  pub held : r.held ≡ None
+  pub acks_known : s.acks.known ≡ []
+  pub flight : in_flight (send_state s) ≡ 0
+  pub buffers : s.inside + count_of s.work ≡ s.shape.buffers
+
+-- so it is where the two met and as many bytes are acknowledged as were sent
+abbrev pub EmptiesOnceAcked : SendView → RecvView → Type 0
+EmptiesOnceAcked s r = BothMet s r → s.counts.acked ≡ s.counts.sent → IsEmptied s r
 
 -- an end of a new link
 pub record IsNewSend (l : LinkShape) (v : SendView) : Type 0 where

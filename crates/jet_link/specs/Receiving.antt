@@ -32,6 +32,11 @@ pub record Received (a b : RecvView) : Type 0 where
   pub oldest : IsPrefix a.packets.known (packet ∷ b.packets.known)
   pub is : b ≡ record a { packets = b.packets; held = Some packet }
 
+-- the bytes processed and the bytes that may be sent in all, as whole numbers, are as they were
+pub record SameCounts (a b : RecvView) : Type 0 where
+  pub processed : whole_processed (recv_state b) ≡ whole_processed (recv_state a)
+  pub offer : whole_offer b.shape (recv_state b) ≡ whole_offer a.shape (recv_state a)
+
 -- all items of the packet in hand were given, and its bytes count as processed, in the period too
 pub record Counted (a b : RecvView) : Type 0 where
   pub processed : whole_processed (recv_state b) ≡ whole_processed (recv_state a) + held_size a.held

@@ -12,6 +12,7 @@
 
 mod ack;
 mod counts;
+mod laws;
 mod meeting;
 mod new_link;
 mod packet;
@@ -21,6 +22,7 @@ mod shape;
 
 pub use ack::Ack;
 pub use counts::Counts;
+pub use laws::acknowledged_links_are_empty;
 pub use meeting::meet;
 pub use new_link::link;
 pub use packet::Packet;

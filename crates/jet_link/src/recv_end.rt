@@ -29,8 +29,9 @@ pub struct RecvEnd {
 
 impl RecvEnd {
     ghost use Rattle.std.specs.Prelude.{◌≡◌, ◌≤◌, ◌<◌, ◌+◌, ◌*◌, ◌++◌, ◌∷◌, ◌^◌, ◌↔◌, IsTrue, IsFalse, IsSome, IsNone, [], length, ◌⊎◌, true, false};
-    ghost use Rattle.jet_link.specs.Views.{recv_view};
-    ghost use Rattle.jet_link.specs.Receiving.{SameRecv, held_bytes, held_size, IsGranted, Received, Counted, Acknowledged, EndedTurn};
+    ghost use Rattle.jet_link.specs.Link.{whole_processed};
+    ghost use Rattle.jet_link.specs.Views.{recv_view, recv_state};
+    ghost use Rattle.jet_link.specs.Receiving.{SameRecv, held_bytes, held_size, IsGranted, Received, SameCounts, Counted, Acknowledged, EndedTurn};
 
     /// How far the next offer goes ahead of the bytes processed.
     pub fn grant(&self) -> u32
@@ -73,6 +74,7 @@ impl RecvEnd {
         ensures same { SameRecv (recv_view self.old) (recv_view self.new) }
         ensures granted { IsGranted (recv_view self.new) }
         ensures received { IsTrue result → Received (recv_view self.old) (recv_view self.new) }
+        ensures counts { IsTrue result → SameCounts (recv_view self.old) (recv_view self.new) }
         ensures none { IsFalse result → (recv_view self.new ≡ recv_view self.old) × ((recv_view self.new).packets.known ≡ []) }
     {
         let Some(packet) = self.packets.take() else {
@@ -103,6 +105,7 @@ impl RecvEnd {
         ensures same { SameRecv (recv_view self.old) (recv_view self.new) }
         ensures granted { IsGranted (recv_view self.new) }
         ensures acknowledged { IsTrue result → Acknowledged (recv_view self.old) (recv_view self.new) }
+        ensures processed { IsTrue result → whole_processed (recv_state (recv_view self.new)) ≡ whole_processed (recv_state (recv_view self.old)) }
         ensures full { IsFalse result → (recv_view self.new ≡ recv_view self.old) × ((recv_view self.new).acks.free ≡ 0) }
     {
         if self.acks.free() == 0 {

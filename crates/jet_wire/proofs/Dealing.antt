@@ -69,7 +69,7 @@ drop_more zero n xs = let e : 0 + n ≡ n = omega arith in ap (λ (k : ℕ). dro
 drop_more (suc a) n [] = let e : suc a + n ≡ suc (a + n) = omega arith in ap (λ (k : ℕ). drop {A = ℕ} k []) e ∙ sym (drop_nil n)
 drop_more (suc a) n (x ∷ xs) = let e : suc a + n ≡ suc (a + n) = omega arith in ap (λ (k : ℕ). drop k (x ∷ xs)) e ∙ drop_more a n xs
 
-fit_all : (xs : List Item) (x : Item) → AllByRecursion ItemFits xs → ItemFits x → AllByRecursion ItemFits (xs ++ x ∷ [])
+pub fit_all : (xs : List Item) (x : Item) → AllByRecursion ItemFits xs → ItemFits x → AllByRecursion ItemFits (xs ++ x ∷ [])
 fit_all [] x h f = (f, tt)
 fit_all (y ∷ ys) x h f = (h.0, fit_all ys x h.1 f)
 
@@ -123,6 +123,7 @@ module _ (v : ReceiverView) (b : router.View) (x : Item) (n : ℕ) (w : BeginsWi
     more = count_rises v.router b g.goes g.fewer;
     gives = λ items k. ([], subst (λ (xs : List Item). ReceiverKeeps owed xs) (sym (append-nil items)) (keeps_owed items k));
     stays = λ same. record { stays = keeps_owed };
+    place = λ same. (refl, refl);
   }
 
 -- ---- an item that was given whole
@@ -177,6 +178,7 @@ module _ (one : OneSpelling) (short : SpellingsAreShort) (v : ReceiverView) (b :
         more = count_rises v.router b g.goes g.fewer;
         gives = λ items k. (x ∷ [], keeps_given items k);
         stays = λ same. absurd (omega (arith, same, rises));
+        place = λ same. absurd (omega (arith, same, rises));
       }
 
 -- ---- one after the other
@@ -201,6 +203,7 @@ deals_refl v = record {
   more = omega arith;
   gives = λ items k. ([], subst (λ (xs : List Item). ReceiverKeeps v xs) (sym (append-nil items)) k);
   stays = λ same. record { stays = λ items k. k };
+  place = λ same. (refl, refl);
 }
 
 pub deals_trans : (a b d : ReceiverView) → Deals a b → Deals b d → Deals a d
@@ -218,6 +221,12 @@ deals_trans a b d p q = record {
         let high = q.more in
         (q.stays (omega (arith, same, low, high))).stays items ((p.stays (omega (arith, same, low, high))).stays items k);
   };
+  place = λ same.
+      let low = p.more in
+      let high = q.more in
+      let one = p.place (omega (arith, same, low, high)) in
+      let two = q.place (omega (arith, same, low, high)) in
+      (two.0 ∙ one.0, two.1 ∙ one.1);
 }
 
 pub deals_keep : (a b : ReceiverView) → Deals a b → ((items : List Item) × ReceiverKeeps a items) → (items : List Item) × ReceiverKeeps b items

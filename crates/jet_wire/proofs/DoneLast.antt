@@ -1,5 +1,5 @@
 -- Where Done stands in what a sender passes on.
-use Rattle.std.proofs.Common.{◌≡◌, ℕ, zero, suc, ◌<◌, ◌==◌, ◌&&◌, ◌||◌, Bool, true, false, cond, ℤ, List, [], ◌∷◌, ◌++◌, All, length, get_or, refl, sym, ◌∙◌, ap, subst, append_assoc, append-nil, arith, Option, Some, None, inl, inr}
+use Rattle.std.proofs.Common.{◌≡◌, ℕ, zero, suc, ◌<◌, ◌==◌, ◌&&◌, ◌||◌, Bool, true, false, cond, ℤ, List, [], ◌∷◌, ◌++◌, All, refl, sym, ◌∙◌, ap, subst, append_assoc, append-nil, arith, Option, Some, None, inl, inr}
 use Rattle.std.specs.Prelude.{◌⊎◌}
 use Rattle.std.proofs.lemmas.List.Elements.{All-nil, All-cons, All-head, All-tail, All-append, All-get_or, All-from_get_or}
 use Rattle.jet_items.specs.declared.item.Item.{Item}
@@ -11,8 +11,8 @@ use Rattle.jet_coalescer.specs.Low.{History, all_done, low, risen, raised, chang
 use Rattle.jet_conveyor.specs.Conveyor.{EndsIn}
 use Rattle.jet_wire.specs.DoneLast.{DoneLast}
 use Rattle.jet_wire.specs.Noting.{items_in}
-use Rattle.jet_wire.specs.Passing.{Taken, MayFollow, InOrder, of_queue, has_ended, history, histories, heard, mark_items, change_items, passed_of, passes, passed_after, passed, begun}
-use Rattle.jet_wire.specs.Sender.{SenderView, queue_count, HasTaken, SenderKeeps}
+use Rattle.jet_wire.specs.Passing.{Taken, MayFollow, InOrder, of_queue, has_ended, histories, heard, mark_items, change_items, passed_of, passes, passed_after, begun}
+use Rattle.jet_wire.specs.Sender.{SenderView, queue_count, SenderKeeps}
 use Rattle.jet_wire.proofs.Heard.{own_queue, ended_push}
 
 abbrev NotDone : Item → Type 0
@@ -59,11 +59,11 @@ unless_true false h = refl
 clash : (b : Bool) → b ≡ true → b ≡ false → ⊥
 clash b t f = cc
 
-not_all : (n : ℕ) (f : ℕ → List Item) (q : ℕ) → q < n → has_ended (f q) ≡ false → all_done (histories n f) ≡ false
+pub not_all : (n : ℕ) (f : ℕ → List Item) (q : ℕ) → q < n → has_ended (f q) ≡ false → all_done (histories n f) ≡ false
 not_all n f q lt still = unless_true (all_done (histories n f)) (λ all. clash (has_ended (f q)) (each_there n f all q lt) still)
 
 -- ---- one item more after items without a Done
-none_has : (xs : List Item) → All NotDone xs → has_ended xs ≡ false
+pub none_has : (xs : List Item) → All NotDone xs → has_ended xs ≡ false
 none_has [] h = refl
 none_has (x ∷ xs) h = or_none (is_done x) (has_ended xs) (All-head NotDone x xs h) (none_has xs (All-tail NotDone x xs h))
 
@@ -123,7 +123,7 @@ none_join : (f : Bool) (x : Item) (xs : List Item) → (is_done x ≡ true → f
 none_join true x xs h e = or_none (is_done x) (has_ended xs) (unless_true (is_done x) (λ d. let no : true ≡ false = h d in cc)) e
 none_join false x xs h e = e
 
-still_open : (q : ℕ) (came : List Taken) → Each (λ b. is_done b.item ≡ true → (b.queue == q) ≡ false) came → has_ended (of_queue q came) ≡ false
+pub still_open : (q : ℕ) (came : List Taken) → Each (λ b. is_done b.item ≡ true → (b.queue == q) ≡ false) came → has_ended (of_queue q came) ≡ false
 still_open q [] h = refl
 still_open q (b ∷ came) h = none_join (b.queue == q) b.item (of_queue q came) h.0 (still_open q came h.1)
 

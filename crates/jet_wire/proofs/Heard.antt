@@ -46,7 +46,7 @@ passed-push n came a = ap (λ (xs : List Item). begun n ++ xs) (passed_after-pus
 cons_same : (g h : History) (gs hs : List History) → g ≡ h → gs ≡ hs → g ∷ gs ≡ h ∷ hs
 cons_same g h gs hs e r = cc
 
-histories_alike : (n : ℕ) (f g : ℕ → List Item) → ((q : ℕ) → q < n → history (f q) ≡ history (g q)) → histories n f ≡ histories n g
+pub histories_alike : (n : ℕ) (f g : ℕ → List Item) → ((q : ℕ) → q < n → history (f q) ≡ history (g q)) → histories n f ≡ histories n g
 histories_alike zero f g h = refl
 histories_alike (suc n) f g h =
     cons_same (history (f 0)) (history (g 0)) (histories n (λ q. f (suc q))) (histories n (λ q. g (suc q))) (h 0 (omega arith)) (histories_alike n (λ q. f (suc q)) (λ q. g (suc q)) (λ q lt. h (suc q) (omega (arith, lt))))
@@ -118,7 +118,8 @@ quiet_if : (b : Bool) (xs : List Item) (x : Item) → as_mark x ≡ [] → is_do
 quiet_if true xs x m e = quiet xs x m e
 quiet_if false xs x m e = ap history (append-nil xs)
 
-quiet_heard : (n : ℕ) (came : List Taken) (a : Taken) → as_mark a.item ≡ [] → is_done a.item ≡ false → heard n (came ++ a ∷ []) ≡ heard n came
+-- an item that is neither a mark nor Done leaves what was heard
+pub quiet_heard : (n : ℕ) (came : List Taken) (a : Taken) → as_mark a.item ≡ [] → is_done a.item ≡ false → heard n (came ++ a ∷ []) ≡ heard n came
 quiet_heard n came a m e =
     histories_alike n (lists_of (came ++ a ∷ [])) (lists_of came) (λ q lt.
     ap history (of_queue-push q came a) ∙ quiet_if (a.queue == q) (of_queue q came) a.item m e)

@@ -1,19 +1,21 @@
 -- Meetings of the two ends of a link.
-use Rattle.std.proofs.Common.{◌≡◌, ℕ, List, [], ◌∷◌, ◌++◌, sym, ◌∙◌, ap, subst, append_assoc, append-nil}
+use Rattle.std.proofs.Common.{◌≡◌, ℕ, List, [], ◌∷◌, ◌++◌, drop, sym, ◌∙◌, ap, subst, append_assoc, append-nil}
 use Rattle.std.specs.List.{AllByRecursion}
-use Rattle.std.proofs.lemmas.List.Concat.{flat_map-append}
+use Rattle.std.proofs.lemmas.List.Concat.{flat_map-append, flat_map-cons}
 use mathlib.Core.List.{IsPrefix}
 use base.Growing.{prefix_anti}
 use Rattle.jet_items.specs.Fits.{ItemFits}
 use Rattle.jet_items.specs.declared.item.Item.{Item}
 use Rattle.jet_spell.specs.Laws.{FrontOf}
-use Rattle.jet_spell.specs.Spelling.{spellings}
+use Rattle.jet_spell.specs.Begins.{BeginsWith}
+use Rattle.jet_spell.specs.Spelling.{spelling, spellings}
 use Rattle.jet_link.specs.Meeting.{SendMet, RecvMet, BothMet}
 use Rattle.jet_link.specs.Packets.{packet_bytes, packed}
 use Rattle.jet_link.specs.Views.{SendView, RecvView}
 use Rattle.jet_wire.specs.Passing.{Taken}
 use Rattle.jet_wire.specs.Receiver.{ReceiverView, bytes_left, ReceiverKeeps, ReceiverStays}
 use Rattle.jet_wire.specs.Sender.{SenderView, work_bytes, SenderKeeps, Stays}
+use Rattle.jet_wire.proofs.Dealing.{fit_all}
 
 -- ---- neither end gives or takes anything by a meeting
 pub sender_met : (v : SenderView) (e : SendView) → SendMet v.end e → Stays v (record v { end = e })
@@ -71,6 +73,17 @@ module _ (law : FrontOf) (s : SenderView) (r : ReceiverView) (came : List Taken)
 
   pub given_front : IsPrefix given sent
   given_front = law given sent (bytes_left r ++ packed r.end.packets.known) g.fits sent_fits all_bytes
+
+  pub next_front : (x : Item) (n : ℕ) → BeginsWith x n (bytes_left r) → IsPrefix (given ++ x ∷ []) sent
+  next_front x n w =
+      let rest : List ℕ = drop n (bytes_left r) in
+      let known : List ℕ = packed r.end.packets.known in
+      let more : spellings (given ++ x ∷ []) ≡ spellings given ++ spelling x =
+      flat_map-append spelling given (x ∷ []) ∙ ap (λ (b : List ℕ). spellings given ++ b) (flat_map-cons spelling x [] ∙ append-nil (spelling x)) in
+      law (given ++ x ∷ []) sent (rest ++ known) (fit_all given x g.fits w.fits) sent_fits
+      (ap (λ (b : List ℕ). b ++ (rest ++ known)) more
+      ∙ (append_assoc (spellings given) (spelling x) (rest ++ known)
+      ∙ (ap (λ (b : List ℕ). spellings given ++ b) (sym (append_assoc (spelling x) rest known) ∙ ap (λ (b : List ℕ). b ++ known) (sym w.begins)) ∙ all_bytes)))
 
   pub given_all : r.end.packets.known ≡ [] → bytes_left r ≡ [] → given ≡ sent
   given_all none left =

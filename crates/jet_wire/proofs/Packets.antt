@@ -52,7 +52,7 @@ receives_trans a b d p q = record {
 known_behind : {X : Type 0} (r k m : List X) (x : X) → IsPrefix k (x ∷ m) → IsPrefix (r ++ k) ((r ++ x ∷ []) ++ m)
 known_behind r k m x (rest, e) = (rest, append_assoc r k rest ∙ (ap (λ w. r ++ w) e ∙ sym (append_assoc r (x ∷ []) m)))
 
-none_left : (v : ReceiverView) → v.end.held ≡ None → v.at ≤ length (held_bytes v.end.held) → bytes_left v ≡ []
+pub none_left : (v : ReceiverView) → v.end.held ≡ None → v.at ≤ length (held_bytes v.end.held) → bytes_left v ≡ []
 none_left v none le = drop_all v.at (held_bytes v.end.held) (omega (arith, ap length (ap held_bytes none)))
 
 -- ---- a packet was taken in hand
@@ -131,7 +131,7 @@ with_period v grant part turns = record {
   };
 }
 
-last_or_not : (t p : ℕ) → t < p → (t + 1 < p) ⊎ (t + 1 ≡ p)
+pub last_or_not : (t p : ℕ) → t < p → (t + 1 < p) ⊎ (t + 1 ≡ p)
 last_or_not t zero lt = absurd (omega (arith, lt))
 last_or_not zero (suc zero) lt = inr (omega arith)
 last_or_not zero (suc (suc p)) lt = inl (omega arith)

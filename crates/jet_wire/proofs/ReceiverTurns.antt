@@ -15,7 +15,7 @@ use Rattle.jet_wire.specs.ReceiverSteps.{Deals, Receives, IsUnmoved, IsOwed}
 use Rattle.jet_wire.specs.ReceiverTurn.{RecvGoes, RouterGoes, ReceiverTurned, moved_count, ReceiverIsStill, ReceiverIsBlocked, ReceiverIsFull, ReceiverIsStarved, IsUnloaded, ReceiverRests}
 use Rattle.jet_wire.proofs.Packets.{recv_trans}
 
-front_size : {X : Type 0} (xs ys : List X) → IsPrefix xs ys → length xs ≤ length ys
+pub front_size : {X : Type 0} (xs ys : List X) → IsPrefix xs ys → length xs ≤ length ys
 front_size xs ys (more, e) = omega (arith, ap length e, length-append xs more)
 
 none_or_some : (held : Option Packet) → held ≡ None ⊎ IsSome held
@@ -127,4 +127,6 @@ module _ (o a d f : ReceiverView) (first : Receives o a) (deals : Deals a d) (la
       packets = rest.packets ∙ ap (λ (w : RecvView). w.packets) deals.end ∙ ap (λ (v : ReceiverView). v.end.packets) same;
       acks = rest.acks ∙ ap (λ (w : RecvView). w.acks) deals.end ∙ ap (λ (v : ReceiverView). v.end.acks) same;
       held = rest.held ∙ ap (λ (w : RecvView). w.held) deals.end ∙ ap (λ (v : ReceiverView). v.end.held) same;
+      at = rest.at ∙ (deals.place same_sent).0 ∙ ap (λ (v : ReceiverView). v.at) same;
+      ended = rest.ended ∙ (deals.place same_sent).1 ∙ ap (λ (v : ReceiverView). v.ended) same;
     }

@@ -1,6 +1,7 @@
 pub mod Data
 pub mod DoneLast
 pub mod Edge
+pub mod InOrder
 pub mod Lending
 pub mod Meeting
 pub mod Noting
@@ -11,3 +12,4 @@ pub mod ReceiverTurn
 pub mod Sender
 pub mod SenderSteps
 pub mod SenderTurn
+pub mod Turns

@@ -2,13 +2,13 @@
 ghost use Rattle.std.specs.Prelude.{◌≡◌, IsOk};
 ghost use Rattle.jet_link.specs.Meeting.{IsLink, BothMet, SendMet, RecvMet};
 ghost use Rattle.jet_wire.specs.Data.{PassesData, SendsAll};
-ghost use Rattle.jet_wire.specs.Meeting.{GivesWhatWasSent, GivesAll};
+ghost use Rattle.jet_wire.specs.Meeting.{GivesWhatWasSent, GivesNext, GivesAll, GivesDoneLast, IsOverAtEnd, EndsAfter, IsEmptyAtEnd};
 ghost use Rattle.jet_wire.specs.Receiver.{receiver_view, ReceiverStays};
 ghost use Rattle.jet_wire.specs.Sender.{sender_view, Stays};
 
 use crate::{Receiver, Sender};
 use jet_items::NoMemory;
-use jet_link::meet;
+use jet_link::{acknowledged_links_are_empty, meet};
 use jet_spell::{front_of, spellings_are_short};
 
 /// A meeting of a sender and a receiver that hold the two ends of one link: of both rings of the link. It takes no memory
@@ -33,12 +33,30 @@ pub fn refresh_link(sender: &mut Sender, receiver: &mut Receiver) -> Result<(), 
 }
 
 /// A law for proofs above, of a sender and a receiver that have met: what the receiver gave its router is a front of what
-/// the sender sent, and all of that where no packet is known and nothing is left of the one in hand. The call does nothing.
+/// the sender sent, with the item that it gives next too, and all of that where no packet is known and nothing is left of the
+/// one in hand. The call does nothing.
 pub fn receivers_give_what_was_sent(sender: &Sender, receiver: &Receiver)
     ensures front { GivesWhatWasSent (sender_view sender.now) (receiver_view receiver.now) }
+    ensures next { GivesNext (sender_view sender.now) (receiver_view receiver.now) }
     ensures all { GivesAll (sender_view sender.now) (receiver_view receiver.now) }
 {
     front_of();
+}
+
+/// A law for proofs above, of a sender and a receiver that have met. Done stands nowhere but at the end of what the receiver
+/// gave. Where the receiver has ended, it gave all that is passed
+/// on of what came to the sender, and no packet is on the way. Where the sender has ended, so has the receiver, and the link
+/// is empty. The call does nothing.
+pub fn links_end(sender: &Sender, receiver: &Receiver)
+    ensures last { GivesDoneLast (sender_view sender.now) (receiver_view receiver.now) }
+    ensures over { IsOverAtEnd (sender_view sender.now) (receiver_view receiver.now) }
+    ensures receiver { EndsAfter (sender_view sender.now) (receiver_view receiver.now) }
+    ensures empty { IsEmptyAtEnd (sender_view sender.now) (receiver_view receiver.now) }
+{
+    receivers_give_what_was_sent(sender, receiver);
+    sender.law_done_last();
+    acknowledged_links_are_empty(&sender.end, &receiver.end);
+    spellings_are_short();
 }
 
 /// A law for proofs above: a sender passes on all data that came to it, in its order, and where it holds nothing, it has

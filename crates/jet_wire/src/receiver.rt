@@ -29,8 +29,8 @@ impl Receiver {
     ghost use Rattle.jet_link.specs.Meeting.{IsNewRecv};
     ghost use Rattle.jet_link.specs.Views.{recv_view};
     ghost use Rattle.jet_wire.specs.Receiver.{receiver_view, bytes_left, ReceiverKeeps, ReceiverIsLawful, ReceiverStays, Gives, IsPaced, IsUnsent};
-    ghost use Rattle.jet_wire.specs.ReceiverSteps.{Deals, IsOwed, Receives, IsUnmoved};
-    ghost use Rattle.jet_wire.specs.ReceiverTurn.{ReceiverTurned, moved_count, ReceiverIsFull, ReceiverIsStarved, IsUnloaded, ReceiverIsStill, ReceiverHasEnded, ReceiverRests};
+    ghost use Rattle.jet_wire.specs.ReceiverSteps.{Deals, IsOwed, Receives, IsUnmoved, CountsBytes, MayAck};
+    ghost use Rattle.jet_wire.specs.ReceiverTurn.{ReceiverTurned, CountsTurn, Offers, moved_count, ReceiverIsFull, ReceiverIsStarved, IsUnloaded, ReceiverIsStill, ReceiverHasEnded, ReceiverRests};
     ghost use Rattle.jet_wire.specs.declared.progress.Progress.TheVariants as progress;
 
     /// A receiver that has received nothing, over the end of a new link and a router that has sent nothing.
@@ -63,6 +63,7 @@ impl Receiver {
         ensures receives { Receives (receiver_view self.old) (receiver_view self.new) }
         ensures paced { IsPaced (receiver_view self.old) → IsPaced (receiver_view self.new) }
         ensures received { IsTrue result → length (receiver_view self.old).end.packets.received < length (receiver_view self.new).end.packets.received }
+        ensures counts { CountsBytes (receiver_view self.old).end (receiver_view self.new).end }
         ensures same { IsFalse result → receiver_view self.new ≡ receiver_view self.old }
         ensures none { IsFalse result → IsSome (receiver_view self.new).end.held ⊎ ReceiverIsStarved (receiver_view self.new) }
     {
@@ -119,6 +120,7 @@ impl Receiver {
         requires paced { IsPaced (receiver_view self.old) }
         ensures receives { Receives (receiver_view self.old) (receiver_view self.new) }
         ensures paced { (receiver_view self.new).end.part ≤ (receiver_view self.new).end.turns * 65536 + 65536 }
+        ensures counts { CountsBytes (receiver_view self.old).end (receiver_view self.new).end }
         ensures still { IsUnmoved (receiver_view self.old) (receiver_view self.new) }
         ensures whole { IsSome (receiver_view self.old).end.held → bytes_left (receiver_view self.old) ≡ [] → (receiver_view self.new).end.whole ≡ true }
     {
@@ -133,7 +135,7 @@ impl Receiver {
     // Acknowledges the packet in hand where all its items were given and a slot is known to be free.
     fn acknowledge(&mut self) -> bool
         ensures receives { Receives (receiver_view self.old) (receiver_view self.new) }
-        ensures paced { ((receiver_view self.new).end.part ≡ (receiver_view self.old).end.part) × ((receiver_view self.new).end.turns ≡ (receiver_view self.old).end.turns) }
+        ensures acks { MayAck (receiver_view self.old).end (receiver_view self.new).end }
         ensures acked { IsTrue result → length (receiver_view self.old).end.acks.sent < length (receiver_view self.new).end.acks.sent }
         ensures empty { IsTrue result → (receiver_view self.new).end.held ≡ None }
         ensures still { IsFalse result → IsUnmoved (receiver_view self.old) (receiver_view self.new) }
@@ -157,6 +159,8 @@ impl Receiver {
         ensures receives { Receives (receiver_view self.old) (receiver_view self.new) }
         ensures paced { IsPaced (receiver_view self.new) }
         ensures granted { IsGranted (receiver_view self.new).end }
+        ensures counted { CountsTurn (receiver_view self.old).end (receiver_view self.new).end }
+        ensures offers { Offers (receiver_view self.old).end (receiver_view self.new).end }
         ensures acked { IsTrue result → length (receiver_view self.old).end.acks.sent < length (receiver_view self.new).end.acks.sent }
         ensures empty { IsTrue result → (receiver_view self.new).end.held ≡ None }
         ensures still { IsFalse result → IsUnmoved (receiver_view self.old) (receiver_view self.new) }
@@ -182,6 +186,9 @@ impl Receiver {
         ensures keeps { Gives (receiver_view self.old) (receiver_view self.new) }
         ensures paced { IsPaced (receiver_view self.new) }
         ensures turned { ReceiverTurned (receiver_view self.old) (receiver_view self.new) }
+        ensures granted { (result ≡ progress.Done → ⊥) → IsGranted (receiver_view self.new).end }
+        ensures counted { (result ≡ progress.Done → ⊥) → CountsTurn (receiver_view self.old).end (receiver_view self.new).end }
+        ensures offers { (result ≡ progress.Done → ⊥) → Offers (receiver_view self.old).end (receiver_view self.new).end }
         ensures unloaded { IsUnloaded (receiver_view self.new) }
         ensures done { result ≡ progress.Done → ReceiverHasEnded (receiver_view self.old) × (self.new ≡ self.old) }
         ensures after { ReceiverHasEnded (receiver_view self.old) → result ≡ progress.Done }

@@ -7,7 +7,7 @@ use Rattle.jet_link.specs.Link.{Raised, less, whole_offer, whole_processed}
 use Rattle.jet_link.specs.Ends.{IsRecvEnd, recv_of}
 use Rattle.jet_link.specs.Receiving.{held_size}
 use Rattle.jet_link.specs.Views.{recv_view}
-use Rattle.jet_link.proofs.RecvEnds.{end_acked, offer_raised, sent_ok}
+use Rattle.jet_link.proofs.RecvEnds.{end_acked, offer_raised, processed_kept, sent_ok}
 use Rattle.jet_link.proofs.Written.{acked_is}
 use Rattle.jet_link.proofs.recv_end.RecvEnd.acknowledge.Goals as goal
 
@@ -59,3 +59,14 @@ returns-clause-acknowledged c = λ ok.
       slot = omega (arith, c.offer.ensures.reach, ap length got, length-append (ring.sent me.acks) (x ∷ []));
       is = acked_is (recv_view me) c.take.new.self (ring.tx_view c.offer.new.self) x c.raised-self.result c.take.ensures.after c.offer.ensures.ring got;
     }
+
+pub returns-clause-processed : goal.returns-clause-processed
+returns-clause-processed c = λ ok.
+    let me = c.args.self.now in
+    let p = c.in-Some.packet in
+    let held : me.held ≡ Some p = sym c.take.ensures.value ∙ c.in-Some.is in
+    let x : Ack = record { buf = p.buf; processed = me.processed; offer = c.raised-self.result } in
+    let got : ring.sent c.offer.new.self ≡ ring.sent me.acks ++ x ∷ [] = sent_ok c.offer.result c.offer.ensures.cause c.offer.ensures.sent (search rules) in
+    let same = processed_kept me.shape me.packets me.acks c.offer.new.self p x me.processed me.offer me.grant c.raised-self.result got in
+    let F : Option Packet → Bool → Option Packet → Type 0 = λ h b g. whole_processed (recv_of me.packets c.offer.new.self g false me.processed c.raised-self.result me.grant) ≡ whole_processed (recv_of me.packets me.acks h b me.processed me.offer me.grant) in
+    subst (λ (g : Option Packet). F me.held me.whole g) (sym c.take.ensures.after) (subst (λ (h : Option Packet). F h me.whole None) (sym held) (subst (λ (b : Bool). F (Some p) b None) (sym c.requires.whole) same))

@@ -11,5 +11,6 @@ returns c = (
     writes_back = tt;
     value = refl;
     meets = λ w d r. dests_met (receiver_view c.args.self.now) (routers.view w) d r;
+    rest = λ w. refl;
   },
 )

@@ -1,6 +1,9 @@
-use Rattle.std.proofs.Common.{nat_lt}
+use Rattle.std.proofs.Common.{nat_lt, sym, subst}
+use Rattle.jet_link.specs.Views.{RecvView, recv_view}
 use Rattle.jet_wire.specs.Receiver.{receiver_view}
 use Rattle.jet_wire.proofs.ReceiverTurns.{turn_gives, turn_turned, turn_moved, turn_unloaded, turn_stays, turn_still, turn_rests}
+use Rattle.jet_wire.specs.ReceiverTurn.{CountsTurn, Offers}
+use Rattle.jet_wire.proofs.Periods.{then_counted, then_offers}
 use Rattle.jet_wire.proofs.Turning.{none_of}
 use Rattle.jet_wire.proofs.receiver.Receiver.turn.Goals as goal
 
@@ -58,3 +61,27 @@ pub returns-else-moved-clause-unloaded : goal.returns-else-moved-clause-unloaded
 returns-else-moved-clause-unloaded c = turn_unloaded (receiver_view c.args.self.now) (receiver_view c.receive-received.new.self) (receiver_view c.unload.new.self) (receiver_view c.settle-acked.new.self)
     c.receive-received.ensures.receives c.unload.ensures.deals c.settle-acked.ensures.receives
     c.settle-acked.result c.settle-acked.ensures.empty c.settle-acked.ensures.still c.unload.ensures.stuck c.settle-acked.ensures.full
+
+pub returns-then-moved-clause-counted : goal.returns-then-moved-clause-counted
+returns-then-moved-clause-counted c = λ _.
+    let f : RecvView = recv_view c.settle-acked.new.self.end in
+    then_counted (recv_view c.args.self.now.end) (recv_view c.receive-received.new.self.end) f c.receive-received.ensures.counts
+    (subst (λ (e : RecvView). CountsTurn e f) c.unload.ensures.deals.end c.settle-acked.ensures.counted)
+
+pub returns-then-moved-clause-offers : goal.returns-then-moved-clause-offers
+returns-then-moved-clause-offers c = λ _.
+    let f : RecvView = recv_view c.settle-acked.new.self.end in
+    then_offers (recv_view c.args.self.now.end) (recv_view c.receive-received.new.self.end) f c.receive-received.ensures.counts
+    (subst (λ (e : RecvView). Offers e f) c.unload.ensures.deals.end c.settle-acked.ensures.offers)
+
+pub returns-else-moved-clause-counted : goal.returns-else-moved-clause-counted
+returns-else-moved-clause-counted c = λ _.
+    let f : RecvView = recv_view c.settle-acked.new.self.end in
+    then_counted (recv_view c.args.self.now.end) (recv_view c.receive-received.new.self.end) f c.receive-received.ensures.counts
+    (subst (λ (e : RecvView). CountsTurn e f) c.unload.ensures.deals.end c.settle-acked.ensures.counted)
+
+pub returns-else-moved-clause-offers : goal.returns-else-moved-clause-offers
+returns-else-moved-clause-offers c = λ _.
+    let f : RecvView = recv_view c.settle-acked.new.self.end in
+    then_offers (recv_view c.args.self.now.end) (recv_view c.receive-received.new.self.end) f c.receive-received.ensures.counts
+    (subst (λ (e : RecvView). Offers e f) c.unload.ensures.deals.end c.settle-acked.ensures.offers)
