@@ -32,18 +32,6 @@ pub record Headline (entered : List Inflow) (behind : EventValue → Bool) (rows
   pub rows_are : rows ≡ rows_text (map (λ e. e.window) entered) table
   pub notes_are : notes ≡ late_text (map (λ e. e.window) entered) late
 
--- Rows and Notes were begun: a front of the text of such a reading's rows, and the lines of some of its late events.
-pub record Begun (entered : List Inflow) (behind : EventValue → Bool) (rows notes : List ℕ) : Type 0 where
-  pub late : List LateValue
-  pub told_late : List LateValue
-  pub untold_late : List LateValue
-  pub table : List RowValue
-  pub untold_rows : List ℕ
-  pub counted : Counted entered behind late table
-  pub late_parts : IsPermutation late (told_late ++ untold_late)
-  pub rows_are : rows_text (map (λ e. e.window) entered) table ≡ rows ++ untold_rows
-  pub notes_are : notes ≡ late_text (map (λ e. e.window) entered) told_late
-
 -- a file that this call opened by its name, and whose bytes were all taken
 pub record IsReadWhole (name content : List ℕ) (before now : ℕ → Bool) (new : Told) : Type 0 where
   pub file : ℕ

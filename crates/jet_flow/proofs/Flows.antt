@@ -18,7 +18,7 @@ use Rattle.jet_plan.specs.Growth.{stream_edges}
 use Rattle.jet_plan.specs.Names.{has_name}
 use Rattle.jet_plan.specs.Plans.{IsValid}
 use Rattle.jet_flow.specs.Flow.{Contents, flattened_by, joining, build_rows, leaving, flow_rule, flow, joined_up}
-use Rattle.jet_flow.proofs.Bags.{SameBag-refl, SameBag-sym, SameBag-trans, SameBag-append, SameBag-filter, SameBag-flat_map, SameBag-map}
+use Rattle.jet_items.proofs.Bags.{SameBag-refl, SameBag-sym, SameBag-trans, SameBag-append, SameBag-filter, SameBag-flat_map, SameBag-map}
 use Rattle.jet_flow.proofs.Valid.{valid_known, valid_acyclic}
 use Rattle.jet_flow.proofs.Walks.{no_stream_walk, streams_start_in}
 

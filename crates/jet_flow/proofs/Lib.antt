@@ -1,4 +1,3 @@
-pub mod Bags
 pub mod Divisors
 pub mod Each
 pub mod Examples

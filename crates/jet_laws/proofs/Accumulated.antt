@@ -1,27 +1,14 @@
 -- Values have one accumulator, which is their total, so it goes by bags.
-use Rattle.std.proofs.Common.{◌≡◌, ◌+◌, ◌%◌, ◌^◌, List, [], ◌∷◌, refl, sym, ◌∙◌, ap, subst, arith, ℤ, pos, ◌+ℤ◌, Some, None}
-use Rattle.std.specs.Prelude.{fold}
-use Rattle.std.specs.Int.{int_wrap, int_min, int_max, w128}
-use Rattle.std.proofs.lemmas.Int.{ints, int_wrap-add_left, int_wrap-add_right}
+use Rattle.std.proofs.Common.{◌≡◌, List, [], ◌∷◌, map, refl, sym, ◌∙◌, ap, subst, ℤ, pos, Option, Some, None}
 use Rattle.jet_items.specs.Bag.{SameBag}
-use Rattle.jet_items.specs.Rows.{IsAccOf, sum_ℤ}
-use Rattle.jet_items.specs.Totals.{joined, one, both, total}
-use Rattle.jet_items.specs.Values.{AccValue}
+use Rattle.jet_items.specs.Frames.{event_in}
+use Rattle.jet_items.specs.Rows.{IsAccOf, first_value, members}
+use Rattle.jet_items.specs.Totals.{one, both, total}
+use Rattle.jet_items.specs.Values.{AccValue, EventValue}
 use Rattle.jet_items.proofs.Bags.{SameBag-from_permutation}
-use Rattle.jet_items.proofs.Totaling.{min_assoc, max_assoc, same_acc, total-SameBag}
+use Rattle.jet_items.proofs.Covering.{IsTotalOf, members_total}
+use Rattle.jet_items.proofs.Totaling.{same_acc, total-SameBag}
 use Rattle.jet_laws.specs.Accs.{AccStaysByOrder, AccIsOne}
-
-sum_from : (a : ℤ) (xs : List ℤ) → fold ◌+ℤ◌ a xs ≡ a +ℤ sum_ℤ xs
-sum_from a [] = omega (arith, ints)
-sum_from a (x ∷ xs) = let p = sum_from (a +ℤ x) xs in let q = sum_from (pos 0 +ℤ x) xs in omega (arith, ints)
-
-min_from : (a b : ℤ) (xs : List ℤ) → fold int_min (int_min a b) xs ≡ int_min a (fold int_min b xs)
-min_from a b [] = refl
-min_from a b (x ∷ xs) = ap (λ z. fold int_min z xs) (min_assoc a b x) ∙ min_from a (int_min b x) xs
-
-max_from : (a b : ℤ) (xs : List ℤ) → fold int_max (int_max a b) xs ≡ int_max a (fold int_max b xs)
-max_from a b [] = refl
-max_from a b (x ∷ xs) = ap (λ z. fold int_max z xs) (max_assoc a b x) ∙ max_from a (int_max b x) xs
 
 some_is : {A : Type 0} {a b : A} → Some a ≡ Some b → a ≡ b
 some_is h = cc
@@ -32,25 +19,29 @@ pub record Totaled (v : ℤ) (vs : List ℤ) : Type 0 where
   pub is : total (λ z. Some (one z)) (v ∷ vs) ≡ Some acc
   pub law : IsAccOf (v ∷ vs) acc
 
+-- values are those of events with one value each, which are all in one window
+event_of : ℤ → EventValue
+event_of v = record { part = 0; line = 0; ts = pos 0; key = []; v = v ∷ [] }
+
+all_members : (values : List ℤ) → map first_value (members (pos 1) (pos 1) [] (map event_of values)) ≡ values
+all_members [] = refl
+all_members (v ∷ vs) = ap (λ (xs : List ℤ). v ∷ xs) (all_members vs)
+
+same_total : (values : List ℤ) → total (event_in (pos 1) (pos 1) []) (map event_of values) ≡ total (λ z. Some (one z)) values
+same_total [] = refl
+same_total (v ∷ vs) = ap (both (Some (one v))) (same_total vs)
+
+values_total : (values : List ℤ) → IsTotalOf values (total (λ z. Some (one z)) values)
+values_total values =
+    subst (λ (xs : List ℤ). IsTotalOf xs (total (λ z. Some (one z)) values)) (all_members values)
+    (subst (IsTotalOf (map first_value (members (pos 1) (pos 1) [] (map event_of values)))) (same_total values) (members_total (pos 1) (pos 1) [] (map event_of values)))
+
 pub totaled : (v : ℤ) (vs : List ℤ) → Totaled v vs
-totaled v [] = record { acc = one v; is = refl; law = record { count = refl; sum = ap (int_wrap w128) (omega (arith, ints)); least = refl; greatest = refl } }
-totaled v (w ∷ ws) =
-    let t = totaled w ws in
-    let least : fold int_min w ws ≡ t.acc.min = some_is (t.law.least) in
-    let greatest : fold int_max w ws ≡ t.acc.max = some_is (t.law.greatest) in
-    record {
-      acc = joined (one v) t.acc;
-      is = ap (both (Some (one v))) t.is;
-      law = record {
-        count = ap (λ n. (1 + n) % 2 ^ 64) t.law.count ∙ omega arith;
-        sum = int_wrap-add_left w128 v t.acc.sum ∙ (ap (λ z. int_wrap w128 (v +ℤ z)) t.law.sum ∙ (int_wrap-add_right w128 v (sum_ℤ (w ∷ ws)) ∙ ap (int_wrap w128) (sums v w ws)));
-        least = ap Some (min_from v w ws ∙ ap (int_min v) least);
-        greatest = ap Some (max_from v w ws ∙ ap (int_max v) greatest);
-      };
-    }
+totaled v vs = made (total (λ z. Some (one z)) (v ∷ vs)) refl (values_total (v ∷ vs))
   where
-    sums : (v w : ℤ) (ws : List ℤ) → v +ℤ sum_ℤ (w ∷ ws) ≡ sum_ℤ (v ∷ w ∷ ws)
-    sums v w ws = let p = sum_from (pos 0 +ℤ v) (w ∷ ws) in omega (arith, ints)
+    made : (o : Option AccValue) → total (λ z. Some (one z)) (v ∷ vs) ≡ o → IsTotalOf (v ∷ vs) o → Totaled v vs
+    made None e none = absurd (cc none)
+    made (Some acc) e law = record { acc = acc; is = e; law = law }
 
 pub acc_is_one : AccIsOne
 acc_is_one values acc other h k =

@@ -5,9 +5,9 @@ pub mod Examples
 pub mod FileLemmas
 pub mod FormLemmas
 pub mod GrammarLemmas
+pub mod HeldLemmas
 pub mod PlaceLemmas
 pub mod QuickLemmas
 pub mod SettledLemmas
-pub mod SplitLemmas
 pub mod TestLemmas
 pub mod WholeLemmas

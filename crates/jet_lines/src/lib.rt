@@ -2,8 +2,8 @@
 //!
 //! `Lines` takes a file in pieces of any size and gives its lines. `read_line` reads what a line of a source
 //! file holds and `read_side` the row of a line of a side file, or each tells the line's first fault. What a line is, what
-//! its fields and numbers are and which fault comes first stands in `specs/`. Lines with a quotation mark are read
-//! with `csv`.
+//! its fields and numbers are and which fault comes first stands in `specs/`. Good lines are read in place; of others `csv`
+//! reads the fields, for the fault that comes first.
 #![tactic(auto)]
 
 mod cut;
@@ -16,7 +16,6 @@ mod lines;
 mod number;
 mod quick;
 mod record;
-mod split;
 
 pub use cut::Cut;
 pub use entry::Entry;

@@ -35,7 +35,10 @@ pub fn read_line(
     if line == IDLE {
         return Ok(Entry::Idle);
     }
-    if let Some(event) = quick_event(line, part, number) {
+    if let Some(event) = quick_event::<false>(line, part, number) {
+        return Ok(Entry::Event(event));
+    }
+    if let Some(event) = quick_event::<true>(line, part, number) {
         return Ok(Entry::Event(event));
     }
     match record_of(alloc, line) {
@@ -75,7 +78,10 @@ pub fn read_side(
     if line.is_empty() {
         return Ok(None);
     }
-    if let Some(side) = quick_side(line, number) {
+    if let Some(side) = quick_side::<false>(line, number) {
+        return Ok(Some(side));
+    }
+    if let Some(side) = quick_side::<true>(line, number) {
         return Ok(Some(side));
     }
     match record_of(alloc, line) {

@@ -1,7 +1,7 @@
 // A file that comes in pieces, cut into lines. One vector holds the bytes of the last line and those that are left; each
-// byte is searched once for a line feed, and bytes are moved only where more than half of them are done with, so that
-// all the work together is linear in the file's size.
-ghost use Rattle.std.specs.Prelude.{◌≡◌, ◌≤◌, ◌+◌, ◌*◌, ◌++◌, [], false, true, length, OnOk, OnErr};
+// byte is searched once for a line feed. Bytes are moved only where there is no room behind them, and when room is made it
+// is as much again as they take, so that all the work together is linear in the file's size.
+ghost use Rattle.std.specs.Prelude.{◌≡◌, ◌≤◌, ◌<◌, ◌+◌, ◌-◌, ◌*◌, ◌++◌, [], false, true, drop, length, max, take, OnOk, OnErr};
 ghost use Rattle.jet_lines.specs.Cutting.{NextIs};
 ghost use Rattle.jet_lines.specs.Files.{most_lines};
 
@@ -17,7 +17,9 @@ use std::marker::Model;
 /// 512 bytes then. Contracts see a record of `most`, `number`, `ended`, `line`, `rest` and `held`.
 #[derive(Drop)]
 pub struct Lines {
+    // The bytes of the last line and those that are left are among the first `len`; the others are room for more.
     held: Vec<u8>,
+    len: usize,
     // The line that was given last.
     from: usize,
     to: usize,
@@ -30,7 +32,7 @@ pub struct Lines {
 }
 
 impl Model for Lines {
-    ghost use Rattle.std.specs.Prelude.{◌-◌, length, take, drop};
+    ghost use Rattle.std.specs.Prelude.{◌-◌, ◌≤◌, length, take, drop};
     ghost use Rattle.jet_lines.specs.Held.{IsHeld};
     ghost use Rattle.jet_lines.specs.LinesValue.{LinesValue};
 
@@ -40,12 +42,12 @@ impl Model for Lines {
       most = s.most;
       number = s.number;
       ended = s.ended;
-      line = take (s.to - s.from) (drop s.from s.held.items);
-      rest = drop s.at s.held.items;
+      line = take (s.to - s.from) (drop s.from (take s.len s.held.items));
+      rest = drop s.at (take s.len s.held.items);
       held = length s.held.items;
     } };
 
-    ghost invariant = { λ s. IsHeld s.held.items s.from s.to s.at s.clear s.number s.most };
+    ghost invariant = { λ s. (s.len ≤ length s.held.items) × IsHeld (take s.len s.held.items) s.from s.to s.at s.clear s.number s.most };
 }
 
 impl Lines {
@@ -57,6 +59,7 @@ impl Lines {
     {
         Lines {
             held: Vec::new(alloc),
+            len: 0,
             from: 0,
             to: 0,
             at: 0,
@@ -67,16 +70,37 @@ impl Lines {
         }
     }
 
-    /// Takes the next piece of the file, before its end was told. Want of memory changes nothing of what comes next. Bytes that were given out are
-    /// let go, so that memory stays flat however long the file is.
+    /// Makes room for a piece of so many bytes, so that `put` of one that is not longer succeeds. A call for want of memory
+    /// changes nothing. The room is at most twice what is asked for again, and so many bytes more, unless there was more before:
+    /// memory stays flat however long the file is.
+    pub fn reserve(&mut self, count: usize) -> Result<(), NoMemory>
+        ensures same { self.new ≡ record self.old { held = self.new.held } }
+        ensures ok { OnOk result (length self.old.line + 2 + length self.old.rest + count ≤ self.new.held) }
+        ensures full { OnErr result (self.old.held < length self.old.line + 2 + length self.old.rest + count) }
+        ensures flat { self.new.held ≤ max self.old.held (2 * (length self.old.line + 2 + length self.old.rest) + count) }
+    {
+        let live = self.to - self.from + 2 + (self.len - self.at);
+        let Some(room) = live.checked_add(count) else {
+            return Err(NoMemory);
+        };
+        if self.held.len() < room {
+            self.held.resize(room.saturating_add(live), 0)?;
+        }
+        Ok(())
+    }
+
+    /// Takes the next piece of the file, before its end was told. It wants memory only where there is no room for the piece, and
+    /// then changes nothing. Bytes that were given out are let go.
     pub fn put(&mut self, piece: &[u8]) -> Result<(), NoMemory>
         requires { self.old.ended ≡ false }
         ensures ok { OnOk result (self.new ≡ record self.old { rest = self.old.rest ++ piece.now; held = self.new.held }) }
         ensures err { OnErr result (self.new ≡ record self.old { held = self.new.held }) }
-        ensures flat { self.new.held ≤ 2 * (length self.old.line + 2 + length self.old.rest) + length piece.now }
+        ensures full { OnErr result (self.old.held < length self.old.line + 2 + length self.old.rest + length piece.now) }
+        ensures flat { self.new.held ≤ max self.old.held (2 * (length self.old.line + 2 + length self.old.rest) + length piece.now) }
     {
-        self.compact();
-        self.append(piece)
+        self.reserve(piece.len())?;
+        self.append(piece);
+        Ok(())
     }
 
     /// Says that the file has no byte more.
@@ -91,7 +115,8 @@ impl Lines {
     pub fn next(&mut self) -> Cut
         ensures { NextIs self.old result self.new }
     {
-        let rest = &self.held[self.at..];
+        let bytes = &self.held[..self.len];
+        let rest = &bytes[self.at..];
         if rest.is_empty() {
             return if self.ended { Cut::End } else { Cut::More };
         }
@@ -108,7 +133,7 @@ impl Lines {
                 Cut::Line(self.number)
             }
             Front::More => {
-                self.clear = self.held.len() - self.at;
+                self.clear = self.len - self.at;
                 Cut::More
             }
             Front::Long => Cut::Bad(self.number + 1, LineFault::TooLong),
@@ -120,32 +145,38 @@ impl Lines {
     pub fn line(&self) -> &[u8]
         ensures { result.now ≡ self.now.line }
     {
-        &self.held[self.from..self.to]
+        let bytes = &self.held[..self.len];
+        &bytes[self.from..self.to]
     }
 
-    // Lets bytes go that no one asks for again, where they are more than half.
-    fn compact(&mut self)
-        ensures same { self.new ≡ record self.old { held = self.new.held } }
-        ensures flat { self.new.held ≤ 2 * (length self.old.line + 2 + length self.old.rest) }
+    // Puts a piece behind what is held, where there is room for it.
+    fn append(&mut self, piece: &[u8])
+        requires room { length self.old.line + 2 + length self.old.rest + length piece.now ≤ self.old.held }
+        ensures { self.new ≡ record self.old { rest = self.old.rest ++ piece.now } }
     {
-        let from = self.from;
-        let len = self.held.len();
-        if from > len / 2 {
-            self.held.rotate_left(from);
-            self.held.truncate(len - from);
-            self.to -= from;
-            self.at -= from;
-            self.from = 0;
-        }
+        let gone = put_behind(&mut self.held, self.len, self.from, piece);
+        self.len = self.len - gone + piece.len();
+        self.from -= gone;
+        self.to -= gone;
+        self.at -= gone;
     }
+}
 
-    fn append(&mut self, piece: &[u8]) -> Result<(), NoMemory>
-        ensures ok { OnOk result (self.new ≡ record self.old { rest = self.old.rest ++ piece.now; held = self.old.held + length piece.now }) }
-        ensures err { OnErr result (self.new ≡ self.old) }
-    {
-        match self.held.extend_from_slice(piece) {
-            Ok(()) => Ok(()),
-            Err(_) => Err(NoMemory),
-        }
+// Puts a piece behind the first `len` bytes, of which `done` are asked for no more. Where there is no room behind them, these
+// go first. Answers how many bytes went.
+fn put_behind(held: &mut [u8], len: usize, done: usize, piece: &[u8]) -> usize
+    requires done { (done ≤ len) × (len ≤ length held.old) }
+    requires room { len - done + length piece.now ≤ length held.old }
+    ensures went { result ≤ done }
+    ensures bytes { take (len - result + length piece.now) held.new ≡ drop result (take len held.old) ++ piece.now }
+    ensures length { length held.new ≡ length held.old }
+    ensures fits { len - result + length piece.now ≤ length held.old }
+{
+    if held.len() - len >= piece.len() {
+        held[len..len + piece.len()].copy_from_slice(piece);
+        return 0;
     }
+    held.copy_within(done..len, 0);
+    held[len - done..len - done + piece.len()].copy_from_slice(piece);
+    done
 }

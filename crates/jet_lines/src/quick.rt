@@ -1,30 +1,30 @@
-// Lines without a quotation mark, read in one pass and in place: most lines of most files. What is answered is what the
-// definition says; a line with a fault, or with a quotation mark, is left to the reading of fields, which tells the fault.
-ghost use Rattle.std.specs.Prelude.{pos, neg_ℤ, ◌≡◌, ◌≤◌, ◌++◌, Ok, Some, IfSome, length, option_map, take};
+// Good lines, read in one pass and in place. What is answered is what the definition says; a line with a fault is left to the
+// reading of fields, which tells the fault. A field may stand between quotation marks, with none inside: no number and no key
+// has one, so each good line is read here. Code for lines without quotation marks knows of none: one for both would take 120
+// instructions more for each such line.
+ghost use Rattle.std.specs.Prelude.{pos, neg_ℤ, ℕ, ◌≡◌, ◌<◌, ◌≤◌, ◌++◌, List, Ok, Some, IfSome, length, option_map, slice_index, take};
 ghost use Rattle.jet_items.specs.KeyFaults.{key_at};
 ghost use Rattle.jet_items.specs.Ranges.{IsWithin, most_time};
 ghost use Rattle.std.specs.List.{AllByRecursion};
 ghost use Rattle.jet_lines.specs.Numbers.{digits_at};
-ghost use Rattle.jet_lines.specs.Quick.{AreValues, comma_and, HasFront, HasNumber, HasValue};
+ghost use Rattle.jet_lines.specs.Quick.{AreValues, comma_and, HasFront, HasNumber, HasValue, IsAtFront};
 ghost use Rattle.jet_lines.specs.Readings.{event_at, line_at, side_at};
 
 use crate::cut::MOST_BYTES;
-use crate::number::{MOST, leading_digits};
+use crate::number::{MOST, leading_digits, number_of};
 use jet_items::{Event, Key, Side};
 
-/// The event of a line, where the line is plainly good.
-pub(crate) fn quick_event(line: &[u8], part: u16, number: u32) -> Option<Event>
+/// The event of a line, where the line is good, and none of its fields stands between quotation marks unless `QUOTED`.
+pub(crate) fn quick_event<const QUOTED: bool>(line: &[u8], part: u16, number: u32) -> Option<Event>
     ensures { IfSome result (λ e. line_at (event_at part number) line.now ≡ Ok (Some e)) }
 {
     if line.len() > MOST_BYTES {
         return None;
     }
-    let (ts, after) = number_front(line)?;
-    let rest = after?;
-    let len = field_len(rest);
-    let key = key_of(&rest[..len])?;
-    let values_bytes = behind(rest, len)??;
-    let v = values(Some(values_bytes))?;
+    let (ts, after) = number_front::<QUOTED>(line)?;
+    let (key_text, after) = field_front::<QUOTED>(after?)?;
+    let key = key_of(key_text)?;
+    let v = values::<QUOTED>(Some(after?))?;
     Some(Event {
         part,
         line: number,
@@ -34,19 +34,18 @@ pub(crate) fn quick_event(line: &[u8], part: u16, number: u32) -> Option<Event>
     })
 }
 
-/// The row of a side line, where the line is plainly good.
-pub(crate) fn quick_side(line: &[u8], number: u32) -> Option<Side>
+/// The row of such a side line.
+pub(crate) fn quick_side<const QUOTED: bool>(line: &[u8], number: u32) -> Option<Side>
     ensures { IfSome result (λ s. line_at (side_at number) line.now ≡ Ok (Some s)) }
 {
     if line.len() > MOST_BYTES {
         return None;
     }
-    let key_len = field_len(line);
-    let key = key_of(&line[..key_len])?;
-    let rest = behind(line, key_len)??;
-    let label_len = field_len(rest);
-    let label = key_of(&rest[..label_len])?;
-    let v = values(behind(rest, label_len)?)?;
+    let (key_text, after) = field_front::<QUOTED>(line)?;
+    let key = key_of(key_text)?;
+    let (label_text, after) = field_front::<QUOTED>(after?)?;
+    let label = key_of(label_text)?;
+    let v = values::<QUOTED>(after)?;
     Some(Side {
         line: number,
         key,
@@ -56,14 +55,14 @@ pub(crate) fn quick_side(line: &[u8], number: u32) -> Option<Side>
 }
 
 // The values to the end of the line; missing ones are 0.
-fn values(after: Option<&[u8]>) -> Option<[i64; 4]>
+fn values<const QUOTED: bool>(after: Option<&[u8]>) -> Option<[i64; 4]>
     ensures values { IfSome result (λ v. AreValues v (option_map (λ s. s.now) after.entry)) }
     ensures range { IfSome result (λ v. AllByRecursion (IsWithin most_time) v) }
 {
-    let (v0, after) = value(after)?;
-    let (v1, after) = value(after)?;
-    let (v2, after) = value(after)?;
-    let (v3, after) = value(after)?;
+    let (v0, after) = value::<QUOTED>(after)?;
+    let (v1, after) = value::<QUOTED>(after)?;
+    let (v2, after) = value::<QUOTED>(after)?;
+    let (v3, after) = value::<QUOTED>(after)?;
     match after {
         Some(_) => None,
         None => Some([v0, v1, v2, v3]),
@@ -71,21 +70,27 @@ fn values(after: Option<&[u8]>) -> Option<[i64; 4]>
 }
 
 // The value that comes next, and what stands behind it.
-fn value(after: Option<&[u8]>) -> Option<(i64, Option<&[u8]>)>
+fn value<const QUOTED: bool>(after: Option<&[u8]>) -> Option<(i64, Option<&[u8]>)>
     ensures value { IfSome result (λ p. HasValue p.0 (option_map (λ s. s.now) after.entry) (option_map (λ s. s.now) p.1)) }
     ensures range { IfSome result (λ p. IsWithin most_time p.0) }
 {
     match after {
-        Some(bytes) => number_front(bytes),
+        Some(bytes) => number_front::<QUOTED>(bytes),
         None => Some((0, None)),
     }
 }
 
 // The number at the front, and what stands behind it.
-fn number_front(bytes: &[u8]) -> Option<(i64, Option<&[u8]>)>
+fn number_front<const QUOTED: bool>(bytes: &[u8]) -> Option<(i64, Option<&[u8]>)>
     ensures front { IfSome result (λ p. HasNumber p.0 bytes.now (option_map (λ s. s.now) p.1)) }
     ensures range { IfSome result (λ p. IsWithin most_time p.0) }
 {
+    if QUOTED {
+        if let [b'"', ..] = bytes {
+            let (text, after) = field_front::<QUOTED>(bytes)?;
+            return Some((number_of(text)?, after));
+        }
+    }
     if let [b'-', digits @ ..] = bytes {
         let (n, after) = digits_front(digits)?;
         return Some((negative(n), after));
@@ -105,7 +110,7 @@ fn negative(n: u64) -> i64
 
 // The digits at the front, which are one to sixteen with a value of at most 10^15, and what stands behind them.
 fn digits_front(bytes: &[u8]) -> Option<(u64, Option<&[u8]>)>
-    ensures front { IfSome result (λ p. HasFront (λ text. digits_at text ≡ Some p.0) bytes.now (option_map (λ s. s.now) p.1)) }
+    ensures front { IfSome result (λ p. (text : List ℕ) × (digits_at text ≡ Some p.0) × (bytes.now ≡ text ++ comma_and (option_map (λ s. s.now) p.1))) }
     ensures most { IfSome result (λ p. p.0 ≤ 1000000000000000) }
 {
     let (n, len) = leading_digits(bytes);
@@ -122,11 +127,26 @@ fn key_of(text: &[u8]) -> Option<Key>
     Key::read(text, 24).ok()
 }
 
-// How many bytes stand before the first comma.
-fn field_len(bytes: &[u8]) -> usize
-    ensures { result ≤ length bytes.now }
+// The field at the front, without the quotation marks round it, and what stands behind it.
+fn field_front<const QUOTED: bool>(bytes: &[u8]) -> Option<(&[u8], Option<&[u8]>)>
+    ensures { IfSome result (λ p. IsAtFront p.0.now bytes.now (option_map (λ s. s.now) p.1)) }
 {
-    bytes.iter().position(|b| *b == b',').unwrap_or(bytes.len())
+    if QUOTED {
+        if let [b'"', inner @ ..] = bytes {
+            let len = len_before(b'"', inner)?;
+            return Some((&inner[..len], behind(inner, len + 1)?));
+        }
+    }
+    let len = len_before(b',', bytes).unwrap_or(bytes.len());
+    Some((&bytes[..len], behind(bytes, len)?))
+}
+
+// How many bytes stand before the first one that is this.
+fn len_before(mark: u8, bytes: &[u8]) -> Option<usize>
+    ensures within { IfSome result (λ len. len < length bytes.now) }
+    ensures here { IfSome result (λ len. slice_index bytes.now len ≡ mark) }
+{
+    bytes.iter().position(|b| *b == mark)
 }
 
 // What stands behind a field of so many bytes, if that is the end of the line or a comma and what follows it.

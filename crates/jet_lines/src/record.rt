@@ -1,5 +1,5 @@
-// The fields of a line, or why it has none. Lines with a quotation mark are read with csv, which takes text of any
-// form, so that the form is tested before; the others are cut at their commas.
+// The fields of a line, or why it has none, as `csv` reads them. It takes text of any form, so the form is tested before. Good
+// lines are read in place and do not come here, so a reader for each line, of 100,000 instructions, is made once a file.
 ghost use Rattle.std.specs.Prelude.{◌≡◌, ◌<◌, IfOk, IfSome, Some, [], ◌≢◌, true, length, not, position, option_map, slice_get, is_some};
 ghost use Rattle.std.specs.List.{list_all};
 ghost use Rattle.csv.specs.Records.{fields_of as record_fields};
@@ -10,7 +10,6 @@ ghost use Rattle.jet_lines.specs.Readings.{Gives, fields_at, fields_or_fault};
 use crate::cut::MOST_BYTES;
 use crate::fault::LineFault;
 use crate::form::has_form;
-use crate::split::{is_unquoted, split_fields};
 use csv::{ByteRecord, ReaderBuilder};
 use jet_items::{NoMemory, Refused};
 use std::alloc::Global;
@@ -29,15 +28,12 @@ pub(crate) fn record_of(alloc: Global, line: &[u8]) -> Result<ByteRecord, Refuse
     }
 }
 
-// The same of a line whose bytes are good. One without a quotation mark has the form.
+// The same of a line whose bytes are good.
 fn formed(alloc: Global, line: &[u8]) -> Result<ByteRecord, Refused<LineFault>>
     requires some { line.now ≢ [] }
     requires good { list_all is_line_byte line.now ≡ true }
     ensures { Gives record_fields result (fields_or_fault (fields_of line.now)) }
 {
-    if is_unquoted(line) {
-        return Ok(split_fields(alloc, line)?);
-    }
     if !has_form(line) {
         return Err(Refused::Fault(LineFault::Quote));
     }

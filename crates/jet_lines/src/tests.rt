@@ -91,7 +91,7 @@ fn side_lines_have_faults_too(rt: HostRuntime) -> Result<(), Fail> {
     Ok(())
 }
 
-// Each line stands twice: it is read in place, and with a quotation mark by csv.
+// Each line stands twice, without quotation marks and with some.
 #[test]
 fn good_lines_are_read(rt: HostRuntime) -> Result<(), Fail> {
     let alloc = rt.alloc();

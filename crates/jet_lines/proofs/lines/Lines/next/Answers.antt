@@ -9,7 +9,7 @@ tail_is items at = take_all (length items - at) (drop at items) (omega (arith, l
 
 pub returns-then-self-2 : goal.returns-then-self-2
 returns-then-self-2 c =
-    let items = c.self.inside.held.items in
+    let items = take c.self.inside.len c.self.inside.held.items in
     let at = c.self.inside.at in
     let here = rw (c.deref.ensures.value) at c.if-is_empty.ensures in
     let some = subst (λ (rest : List ℕ). false ≡ (length rest == 0)) (tail_is items at) here in
@@ -17,7 +17,7 @@ returns-then-self-2 c =
 
 pub returns-in-Long : goal.returns-in-Long
 returns-in-Long c =
-    let items = c.self.inside.held.items in
+    let items = take c.self.inside.len c.self.inside.held.items in
     let at = c.self.inside.at in
     let here = rw (c.deref.ensures.value) at c.in-Long.ensures in
     let long = subst (λ (rest : List ℕ). HasLongLine c.self.inside.ended rest) (tail_is items at) here in
