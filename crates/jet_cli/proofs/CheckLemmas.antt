@@ -1,6 +1,7 @@
 -- What the command `check` comes to.
 use Rattle.std.proofs.Common.{◌≡◌, ℕ, List, [], ◌∷◌, ◌++◌, length, map, take, Bool, true, false, Option, Some, None, refl, ap, sym, ◌∙◌, subst, arith, append-nil, append_assoc, All, inl, inr}
 use Rattle.std.specs.Prelude.{◌≢◌, ◌⊎◌, Any, IsSome, IsSomeAnd, option_map, flat_map, ◌==◌}
+use Rattle.std.specs.List.{AllZip}
 use Rattle.std.specs.Option.{unwrap_or}
 use Rattle.std.proofs.lemmas.List.Elements.{All-weaker}
 use Rattle.jet_lines.specs.declared.fault.LineFault.{LineFault}
@@ -11,15 +12,17 @@ use Rattle.jet_flow.specs.DataFiles.{DataFile, data_files, file_name}
 use Rattle.jet_plan.specs.Plans.{IsValid}
 use Rattle.jet_plan.specs.declared.plan.Plan.{Plan}
 use Rattle.jet_worker.specs.CheckText.{Checks, check_line, first_bad}
-use Rattle.jet_worker.specs.Checked.{CheckStops, IsBadLine, IsBegun, IsCheckOf, IsChecked, IsGood, IsRead, LacksSome, check_lines, numbered}
-use Rattle.jet_worker.specs.Calls.{Calling, ReadsInOrder}
+use Rattle.jet_worker.specs.Checked.{BeginsTurn, CheckStops, HaveTurns, IsBadLine, IsBegun, IsCheckOf, IsChecked, IsGood, IsRead, IsTurnOf, LacksSome, check_lines, content_of, names_of, numbered}
+use Rattle.jet_worker.specs.Calls.{Calling, OpensInOrder, ReadsInOrder, Turn}
 use Rattle.jet_worker.specs.declared.stop.Stop.{Stop}
 use Rattle.jet_worker.specs.declared.stop.Stop.TheVariants.{BadLine, Outside, NoMemory}
 use Rattle.jet_plan.specs.Faults.{fault}
 use Rattle.jet_plan.specs.declared.dag.Dag.{Dag}
 use Rattle.jet_plan.specs.declared.settings.Settings.{Settings}
 use Rattle.jet_worker.proofs.OrderLemmas.{no_calls}
-use Rattle.jet_cli.specs.CheckedJob.{CheckHalts, HasChecks, IsCheckedJob, LacksFiles, WhyHalted}
+use Rattle.jet_cli.specs.CallOrder.{ChecksJob, ReadsJob}
+use Rattle.jet_cli.specs.CheckedJob.{CheckHalts, IsCheckedJob, LacksFiles, WhyHalted}
+use Rattle.jet_cli.specs.JobChecks.{HasChecks}
 use Rattle.jet_cli.specs.JobData.{files_in, files_of}
 use Rattle.jet_cli.specs.inner.Halting.{IsKnown, IsNoBadHalt}
 use Rattle.jet_cli.specs.JobFiles.{ReadHalts, ReadsPlan}
@@ -36,6 +39,36 @@ use Rattle.jet_cli.proofs.OrderLemmas.{fails_first, fails_later, reads_only}
 -- the files of a check are those of the job in the job file
 pub files_are : (c : JobCommand) (old : Told) (h : HasChecks c old) → files_of (old.content c.job) ≡ h.checks.files
 files_are c old h = ap files_of h.content_is ∙ ap files_in h.job_is ∙ sym h.is.files
+
+-- the calls for a job file, and then those for the files of its check, which have their turns
+pub job_checked : (c : JobCommand) (told : Told) (calls first later : List CallMade) → calls ≡ first ++ later → ReadsJob c.job first → (h : HasChecks c told) (order : ReadsInOrder (names_of h.checks) later)
+    → HaveTurns h.checks told (numbered h.checks) order.turns → ChecksJob c told calls
+job_checked c told calls first later calls_are job h order turns =
+    let files : map file_name (files_of (told.content c.job)) ≡ names_of h.checks = ap (map file_name) (files_are c told h) in
+    record {
+      first = first;
+      later = later;
+      calls_are = calls_are;
+      job = job;
+      files = record {
+        opens = subst (λ (names : List (List ℕ)). OpensInOrder names later) (sym files) order.opens;
+        opened = order.opened;
+        turns = order.turns;
+        waiting = order.waiting;
+        last = order.last;
+        calls_are = order.calls_are;
+        order = order.order;
+        end = order.end;
+      };
+      turns = inr (h, turns);
+    }
+
+-- turns that are all whole
+pub turns_all : (c : Checks) (told : Told) (files : List (ℕ × DataFile)) (turns : List Turn) → AllZip (λ p t. IsTurnOf c p (content_of told p.1) t) files turns → HaveTurns c told files turns
+turns_all c told files [] h = tt
+turns_all c told [] (u ∷ turns) h = absurd h
+turns_all c told (q ∷ files) (u ∷ []) h = inr h.0.reads
+turns_all c told (q ∷ files) (u ∷ v ∷ turns) h = (h.0, turns_all c told files (v ∷ turns) h.1)
 
 -- ---- from the reading of the job file on
 module _ (k : Checks) (old mid : Told) (kept : mid.content ≡ old.content) (written : mid.written ≡ old.written) where
@@ -59,6 +92,12 @@ module _ (k : Checks) (old mid : Told) (kept : mid.content ≡ old.content) (wri
     kept = b.kept ∙ kept;
     there = subst (λ (ct : List ℕ → Option (List ℕ)). All (λ (f : DataFile). IsSome (ct (file_name f))) k.files) kept b.there;
   }
+
+  turns_same : (ps : List (ℕ × DataFile)) (turns : List Turn) → HaveTurns k mid ps turns → HaveTurns k old ps turns
+  turns_same ps [] h = tt
+  turns_same [] (t ∷ turns) h = absurd h
+  turns_same (p ∷ ps) (t ∷ []) h = subst (λ (ct : List ℕ → Option (List ℕ)). BeginsTurn (unwrap_or (ct (file_name p.1)) []) t) kept h
+  turns_same (p ∷ ps) (t ∷ u ∷ turns) h = (subst (λ (ct : List ℕ → Option (List ℕ)). IsTurnOf k p (unwrap_or (ct (file_name p.1)) []) t) kept h.0, turns_same ps (u ∷ turns) h.1)
 
   -- a number that is new behind the job file's is new
   fresh_before : (file : ℕ) (before now : ℕ → Bool) → AddsNumber file before now → (n : ℕ) → now n ≡ false → before n ≡ false
@@ -110,6 +149,7 @@ module _ (k : Checks) (old mid : Told) (kept : mid.content ≡ old.content) (wri
       → IsChecked k before now calls old new
   checked_same file before opened now calls new adds others d = record {
     order = d.order;
+    turns = subst (λ (ct : List ℕ → Option (List ℕ)). AllZip (λ (p : ℕ × DataFile) (t : Turn). IsTurnOf k p (unwrap_or (ct (file_name p.1)) []) t) (numbered k) d.order.turns) kept d.turns;
     good = good_same (numbered k) d.good;
     read = All-weaker (IsRead opened now calls mid new) (IsRead before now calls old new) (λ p h. read_more file before opened now calls new adds p h) (numbered k) d.read;
     rows = wrote_same out.Rows (new.written out.Rows) (numbered k) d.rows;
@@ -171,7 +211,7 @@ goes_checked c plan before opened now valid =
         first = job_calls c.job r.file r.counts;
         later = k.calls;
         calls_are = refl;
-        reads = reads_only c.job r.file r.counts r.few;
+        reads = reads_only c.job r.file r.counts r.pieces r.few;
         files = checked_same h.checks a b r.kept r.written r.file before opened now k.calls d r.opened r.others k.did;
       };
     })
@@ -199,13 +239,8 @@ halts_check c plan stop before opened a b d r h k = record {
   calls = job_calls c.job r.file r.counts ++ k.calls;
   trace = then_calls a.trace b.trace d.trace (job_calls c.job r.file r.counts) k.calls r.trace k.trace;
   did = record {
-    order = record {
-      first = job_calls c.job r.file r.counts;
-      later = k.calls;
-      calls_are = refl;
-      job = reads_only c.job r.file r.counts r.few;
-      files = subst (λ (files : List DataFile). ReadsInOrder (map file_name files) k.calls) (sym (files_are c a h)) k.did.order;
-    };
+    order = job_checked c a (job_calls c.job r.file r.counts ++ k.calls) (job_calls c.job r.file r.counts) k.calls refl (reads_only c.job r.file r.counts r.pieces r.few) h k.did.order
+        (turns_same h.checks a b r.kept r.written (numbered h.checks) k.did.order.turns k.did.turns);
     why = why_stopped c stop r.file r.counts a b d r.kept r.written h k.calls k.did;
   };
 }
@@ -230,11 +265,12 @@ why_read c (Stopped (Outside call spot)) calls a b never h = (fails_first call s
 why_read c (Stopped NoMemory) calls a b never h = inl h.written
 
 pub goes_halts_read : (c : JobCommand) (halt : Halt) (old new : Option Told) → IsNoBadHalt halt → WhereTold (Calling (ReadHalts c halt)) old new → WhereTold (Calling (CheckHalts c halt)) old new
+unfolding no_calls
 goes_halts_read c halt old new never = goes_weaker (Calling (ReadHalts c halt)) (Calling (CheckHalts c halt)) (λ a b h. record {
   calls = h.calls;
   trace = h.trace;
   did = record {
-    order = record { first = h.calls; later = []; calls_are = sym (append-nil h.calls); job = h.did.order; files = no_calls (map file_name (files_of (a.content c.job))) };
+    order = record { first = h.calls; later = []; calls_are = sym (append-nil h.calls); job = h.did.order; files = no_calls (map file_name (files_of (a.content c.job))); turns = inl refl };
     why = why_read c halt h.calls a b never h.did;
   };
 }) old new

@@ -1,16 +1,17 @@
 -- How each command ended, in the words of the top call.
-use Rattle.std.proofs.Common.{◌≡◌, ℕ, List, [], map, append-nil, Bool, true, Option, Some, None, Result, Ok, Err, refl, ap, sym, ◌∙◌, subst, OnOk, pos, ◌≤ℤ◌, ◌<◌, ◌+◌, length, get_or, inl, inr, arith}
+use Rattle.std.proofs.Common.{◌≡◌, ℕ, List, [], append-nil, Bool, true, Option, Some, None, Result, Ok, Err, refl, ap, sym, ◌∙◌, subst, OnOk, pos, ◌≤ℤ◌, ◌<◌, ◌+◌, length, get_or, inl, inr, arith}
 use Rattle.std.specs.Prelude.{IfErr, IfSome, IsSome, IsSomeAnd, option_map, slice_get}
 use Rattle.jet_file.specs.Headline.{WritesNothing}
 use Rattle.jet_file.specs.Outside.{Told, WhereTold, LacksFile}
-use Rattle.jet_worker.specs.Calls.{Calling, ReadsInOrder}
+use Rattle.jet_worker.specs.Calls.{Calling}
 use Rattle.jet_worker.specs.declared.stop.Stop.TheVariants.{BadLine, Outside, NoMemory}
 use Rattle.jet_cli.specs.CallOrder.{IsInOrder}
 use Rattle.jet_cli.specs.BaseJob.{base_fault}
 use Rattle.jet_flow.specs.DataFiles.{DataFile, file_name}
 use Rattle.jet_worker.specs.CheckText.{first_bad}
-use Rattle.jet_worker.specs.Checked.{IsGood}
-use Rattle.jet_cli.specs.CheckedJob.{AreGoodFiles, CheckHalts, HasChecks, HasDataFiles, IsBadLineOf, IsCheckedJob, LacksFiles}
+use Rattle.jet_worker.specs.Checked.{IsGood, numbered}
+use Rattle.jet_cli.specs.CheckedJob.{AreGoodFiles, CheckHalts, HasDataFiles, IsBadLineOf, IsCheckedJob, LacksFiles}
+use Rattle.jet_cli.specs.JobChecks.{HasChecks}
 use Rattle.jet_cli.specs.JobData.{files_of}
 use Rattle.jet_lines.specs.declared.fault.LineFault.{LineFault}
 use Rattle.std.specs.List.{All, Any, enumerate_from}
@@ -32,7 +33,7 @@ use Rattle.jet_cli.specs.declared.status.Refusal.TheVariants as refusal
 use Rattle.jet_cli.proofs.AnswerLemmas.{in_time_is, never_bad, quiet_is}
 use Rattle.jet_file.proofs.GoesLemmas.{goes_same, goes_weaker}
 use Rattle.jet_cli.proofs.MeetLemmas.{Begun, Facts, Fails, Halted}
-use Rattle.jet_cli.proofs.CheckLemmas.{files_are}
+use Rattle.jet_cli.proofs.CheckLemmas.{job_checked, turns_all}
 
 -- where the file is there, it does not lack
 lacks_not : (name : List ℕ) (told : Option Told) → LacksFile name told → IsSomeAnd told (λ t. IsSome (t.content name)) → ⊥
@@ -267,13 +268,8 @@ check_calls c before after old now (Ok d) done halt =
     goes_weaker (Calling (IsCheckedJob c before after)) (Calling (IsInOrder (CheckOf c))) (λ a b h. record {
       calls = h.calls;
       trace = h.trace;
-      did = record {
-        first = h.did.first;
-        later = h.did.later;
-        calls_are = h.did.calls_are;
-        job = h.did.reads;
-        files = subst (λ (files : List DataFile). ReadsInOrder (map file_name files) h.did.later) (sym (files_are c a h.did.job)) h.did.files.order;
-      };
+      did = job_checked c a h.calls h.did.first h.did.later h.did.calls_are h.did.reads h.did.job h.did.files.order
+          (turns_all h.did.job.checks a (numbered h.did.job.checks) h.did.files.order.turns h.did.files.turns);
     }) old now done
 check_calls c before after old now (Err e) done halt =
     goes_weaker (Calling (CheckHalts c e)) (Calling (IsInOrder (CheckOf c))) (λ a b h. record { calls = h.calls; trace = h.trace; did = h.did.order }) old now halt

@@ -19,7 +19,7 @@ use Rattle.jet_file.proofs.GoesLemmas.{goes_same, goes_then, goes_weaker}
 use Rattle.jet_cli.specs.Counting.{Counts, late_among, mark_after}
 use Rattle.jet_cli.specs.Done.{IsDone}
 use Rattle.jet_cli.specs.inner.Ending.{Ends}
-use Rattle.jet_worker.specs.Calls.{Calling, IsNoOpening}
+use Rattle.jet_worker.specs.Calls.{Calling, ReadsOrWrites}
 use Rattle.jet_worker.specs.Feeding.{PutsPiece, StopsReads, TakesPiece}
 use Rattle.jet_worker.proofs.CallLemmas.{last_weaker, none_reads, write_in}
 use Rattle.jet_cli.specs.LineStops.{LineStop, IsBadIn, IsBadLineAt, RunStops, StepStops}
@@ -64,7 +64,7 @@ pub stops_at_cut : (c : WindowCommand) (file : ℕ) (old start now : Option Told
     → Progress c file start now lines w → NextIs lines (cut.Bad n why) lines' → WhereTold (OpensFile c.file file) old start → WhereTold (Calling (RunStops c (BadLine 0 n why))) old now
 stops_at_cut c file old start now lines lines' w n why p bad opens =
     goes_run_stops c file p.bytes lines.ended (base_rows_text c p.table) (base_late_text (late_among c (events_in most_lines 0 p.given))) (BadLine 0 n why) old start now now
-    (bad_cut c file start now lines w p n 0 why lines' refl bad) opens p.told (goes_same (StepStops (IsCallIn (Part 0) file) (BadLine 0 n why)) (λ a. record { calls = []; quiet = All-nil IsNoOpening; last = []; fails = refl; trace = sym (append-nil (a.trace ++ []) ∙ append-nil a.trace) }) now)
+    (bad_cut c file start now lines w p n 0 why lines' refl bad) opens p.told (goes_same (StepStops (IsCallIn (Part 0) file) (BadLine 0 n why)) (λ a. record { calls = []; quiet = All-nil ReadsOrWrites; last = []; fails = refl; trace = sym (append-nil (a.trace ++ []) ∙ append-nil a.trace) }) now)
 
 -- a step that writes is one of any file
 of_writing : (file : ℕ) (stop : Stop) (now next : Option Told) → WhereTold (StepStops IsWriting stop) now next → WhereTold (StepStops (IsCallIn (Part 0) file) stop) now next
@@ -92,7 +92,7 @@ none_bad NoMemory h content = tt
 pub stops_read : (file : ℕ) (stop : Stop) (now next : Option Told) → WhereTold (StopsReads (Part 0) file stop) now next → WhereTold (StepStops (IsCallIn (Part 0) file) stop) now next
 stops_read file stop = goes_weaker (StopsReads (Part 0) file stop) (StepStops (IsCallIn (Part 0) file) stop) (λ a b h. record {
   calls = map (Read file) h.counts;
-  quiet = none_reads file h.counts;
+  quiet = none_reads file h.counts h.pieces;
   last = h.last;
   fails = h.fails;
   trace = h.trace;

@@ -19,6 +19,7 @@ use Rattle.jet_cli.specs.Words.{JetCommand, WindowOf, PlanOf, CheckOf}
 use Rattle.jet_cli.specs.declared.halt.Halt.{Halt}
 use Rattle.jet_cli.specs.declared.halt.Halt.TheVariants.{Refused, Stopped}
 use Rattle.jet_cli.specs.declared.status.Refusal.{Refusal}
+use Rattle.jet_cli.specs.declared.status.Status.{Status}
 use Rattle.jet_cli.specs.declared.status.Status.TheVariants as status
 
 -- the last call of all failed, and it is the one that is named
@@ -203,9 +204,14 @@ module _ {S : Type 0} (told : S → Option Told) (opened : S → ℕ → Bool) (
     complete = λ none good never. inr refl;
   }
 
-  pub meets : (r : Result (Unit {0}) Halt) → Facts told opened steady faults c old now r → Meets told opened steady faults c old now (status_of r)
+  meets : (r : Result (Unit {0}) Halt) → Facts told opened steady faults c old now r → Meets told opened steady faults c old now (status_of r)
   meets (Ok d) f = meets_done d f
   meets (Err (Refused why)) f = meets_refused why f
   meets (Err (Stopped (BadLine p l w))) f = meets_bad p l w f
   meets (Err (Stopped (Outside k s))) f = meets_fault k s f
   meets (Err (Stopped NoMemory)) f = meets_memory f
+
+  -- the same of the words that are the command, and of the status that is the answer
+  pub meets_as : (words : JetCommand) (s : Status) (r : Result (Unit {0}) Halt) → words ≡ c → s ≡ status_of r → Facts told opened steady faults c old now r → Meets told opened steady faults words old now s
+  meets_as words s r is answer f =
+      subst (λ (k : JetCommand). Meets told opened steady faults k old now s) (sym is) (subst (λ (t : Status). Meets told opened steady faults c old now t) (sym answer) (meets r f))

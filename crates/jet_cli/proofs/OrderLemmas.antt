@@ -4,7 +4,7 @@ use Rattle.std.specs.Prelude.{slice_get}
 use Rattle.std.proofs.lemmas.List.Elements.{All-append, All-cons, All-nil}
 use Rattle.jet_file.specs.Outside.{CallMade, Opened, Read, Missed, Tried, Opening, Reading, Writing}
 use Rattle.jet_file.specs.declared.outside.Out.TheVariants as out
-use Rattle.jet_worker.specs.Calls.{EndsFailed, IsCallOf, IsEnd, IsNoOpening, Turn, opened_by, part_place, turn_calls}
+use Rattle.jet_worker.specs.Calls.{ArePieces, EndsFailed, IsCallOf, IsEnd, ReadsOrWrites, Turn, opened_by, part_place, turn_calls}
 use Rattle.jet_worker.specs.Stopping.{IsCallIn, LastIs, LastOf}
 use Rattle.jet_worker.specs.declared.stop.Call.{Call}
 use Rattle.jet_worker.specs.declared.stop.Call.TheVariants as call
@@ -19,13 +19,13 @@ use Rattle.jet_cli.specs.CallOrder.{ReadsJob, StopNamed, check_place, job_place,
 -- ---- the calls for a job file
 
 -- a job file was opened and had a turn, and then came the last
-pub reads_job : (name : List ℕ) (file : ℕ) (counts lengths : List ℕ) (last : List CallMade) → sum counts ≤ most_text → All IsNoOpening last → IsEnd last
+pub reads_job : (name : List ℕ) (file : ℕ) (counts lengths : List ℕ) (last : List CallMade) → ArePieces counts → sum counts ≤ most_text → All ReadsOrWrites last → IsEnd last
     → ReadsJob name (Opened name file ∷ (turn_calls (record { file = file; counts = counts; lengths = lengths }) ++ last))
-reads_job name file counts lengths last few none end =
+reads_job name file counts lengths last pieces few none end =
     let t : Turn = record { file = file; counts = counts; lengths = lengths } in
     record {
       order = record {
-        opens = (refl, All-append IsNoOpening (turn_calls t) last (none_turn t) none);
+        opens = (refl, All-append ReadsOrWrites (turn_calls t) last (none_turn t pieces) none);
         opened = (name, file) ∷ [];
         turns = t ∷ [];
         waiting = [];
@@ -38,10 +38,10 @@ reads_job name file counts lengths last few none end =
     }
 
 -- it was opened and read
-pub reads_only : (name : List ℕ) (file : ℕ) (counts : List ℕ) → sum counts ≤ most_text → ReadsJob name (Opened name file ∷ map (Read file) counts)
-reads_only name file counts few =
+pub reads_only : (name : List ℕ) (file : ℕ) (counts : List ℕ) → ArePieces counts → sum counts ≤ most_text → ReadsJob name (Opened name file ∷ map (Read file) counts)
+reads_only name file counts pieces few =
     subst (λ (l : List CallMade). ReadsJob name (Opened name file ∷ l)) (append-nil (map (Read file) counts ++ []) ∙ append-nil (map (Read file) counts))
-    (reads_job name file counts [] [] few (All-nil IsNoOpening) (inl refl))
+    (reads_job name file counts [] [] pieces few (All-nil ReadsOrWrites) (inl refl))
 
 -- its opening failed, or wanted memory
 pub unopened : (name : List ℕ) (stop : Stop) (last : List CallMade) → LastOf call.Open Job (Opening name) stop last → ReadsJob name last

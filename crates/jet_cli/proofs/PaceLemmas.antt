@@ -13,9 +13,9 @@ use Rattle.jet_file.specs.Text.{row_line}
 use Rattle.jet_file.specs.declared.outside.Out.{Out}
 use Rattle.jet_file.specs.declared.outside.Out.TheVariants.{Rows, Notes}
 use Rattle.jet_file.proofs.PaceLemmas.{taken_by-append, wrote_by-append}
-use Rattle.jet_worker.specs.Calls.{IsNoOpening}
+use Rattle.jet_worker.specs.Calls.{ReadsOrWrites}
 use Rattle.jet_worker.specs.Feeding.{Appends, TakesPiece}
-use Rattle.jet_worker.proofs.CallLemmas.{none_reads, none_writes}
+use Rattle.jet_worker.proofs.CallLemmas.{none_reads, none_writes, one_piece}
 use Rattle.jet_cli.specs.Pacing.{HasPaced, base_ahead, base_mark}
 use Rattle.jet_cli.specs.inner.Progress.{base_rows_text}
 use Rattle.jet_cli.specs.Words.{WindowCommand}
@@ -160,7 +160,7 @@ sees_all c (Some m) closed table k same all = (
 pub paced_starts : (c : WindowCommand) (file : ℕ) (a : Told) → HasPaced c file [] None [] a a
 paced_starts c file a = record {
   calls = [];
-  quiet = All-nil IsNoOpening;
+  quiet = All-nil ReadsOrWrites;
   trace = sym (append-nil a.trace);
   rest = refl;
   taken = refl;
@@ -181,7 +181,7 @@ paced_takes c file bytes piece closed table x y a b d h t is now =
     subst (λ (p : List ℕ). HasPaced c file (bytes ++ p) closed table a d) is
     (record {
       calls = h.calls ++ read;
-      quiet = All-append IsNoOpening h.calls read h.quiet (none_reads file (length t.piece ∷ []));
+      quiet = All-append ReadsOrWrites h.calls read h.quiet (none_reads file (length t.piece ∷ []) (one_piece (length t.piece) t.small));
       trace = t.trace ∙ ap (λ (l : List CallMade). l ++ read) h.trace ∙ append_assoc a.trace h.calls read;
       rest = h.rest ∙ ap (λ (s : List ℕ). bytes ++ s) t.rest ∙ sym (append_assoc bytes t.piece (rest_of d file));
       taken = omega (arith, taken_by-append file h.calls read, took_one file (length t.piece), h.taken, length-append bytes t.piece);
@@ -206,7 +206,7 @@ paced_appends c file bytes closed closed' table more notes a b d h w on =
     let none : NoRead (first ++ second) = reads_none_both first second (reads_none Notes w.note_lengths) (reads_none Rows w.row_lengths) in
     record {
       calls = h.calls ++ (first ++ second);
-      quiet = All-append IsNoOpening h.calls (first ++ second) h.quiet (All-append IsNoOpening first second (none_writes Notes w.note_lengths) (none_writes Rows w.row_lengths));
+      quiet = All-append ReadsOrWrites h.calls (first ++ second) h.quiet (All-append ReadsOrWrites first second (none_writes Notes w.note_lengths) (none_writes Rows w.row_lengths));
       trace = w.trace ∙ append_assoc b.trace first second ∙ ap (λ (l : List CallMade). l ++ (first ++ second)) h.trace ∙ append_assoc a.trace h.calls (first ++ second);
       rest = h.rest ∙ ap (λ (s : List ℕ). bytes ++ s) (sym (rest_stays file b d w.content w.place));
       taken = taken_by-append file h.calls (first ++ second) ∙ omega (arith, took_none file (first ++ second) none, h.taken);

@@ -5,9 +5,9 @@ use Rattle.jet_file.specs.declared.outside.Out.TheVariants.{Rows, Notes}
 use Rattle.jet_file.proofs.GoesLemmas.{goes_then, goes_same}
 use Rattle.jet_lines.specs.LinesValue.{LinesValue}
 use Rattle.std.proofs.lemmas.List.Elements.{All-append, All-nil}
-use Rattle.jet_worker.specs.Calls.{IsNoOpening}
+use Rattle.jet_worker.specs.Calls.{ReadsOrWrites}
 use Rattle.jet_worker.specs.Feeding.{Appends, TakesPiece}
-use Rattle.jet_worker.proofs.CallLemmas.{none_reads, none_writes}
+use Rattle.jet_worker.proofs.CallLemmas.{none_reads, none_writes, one_piece}
 use Rattle.jet_cli.specs.inner.Progress.{HasRun}
 
 false_not_true : {P : Type 0} → false ≡ true → P
@@ -23,7 +23,7 @@ run_starts file a = record {
   rows_written = sym (append-nil (a.written Rows));
   notes_written = sym (append-nil (a.written Notes));
   calls = [];
-  quiet = All-nil IsNoOpening;
+  quiet = All-nil ReadsOrWrites;
   trace = sym (append-nil a.trace);
 }
 
@@ -40,7 +40,7 @@ run_takes file bytes rows notes before after piece a b c h t is =
       rows_written = ap (λ w. w Rows) t.written ∙ h.rows_written;
       notes_written = ap (λ w. w Notes) t.written ∙ h.notes_written;
       calls = h.calls ++ Read file (length t.piece) ∷ [];
-      quiet = All-append IsNoOpening h.calls (Read file (length t.piece) ∷ []) h.quiet (none_reads file (length t.piece ∷ []));
+      quiet = All-append ReadsOrWrites h.calls (Read file (length t.piece) ∷ []) h.quiet (none_reads file (length t.piece ∷ []) (one_piece (length t.piece) t.small));
       trace = t.trace ∙ ap (λ (l : List CallMade). l ++ Read file (length t.piece) ∷ []) h.trace ∙ append_assoc a.trace h.calls (Read file (length t.piece) ∷ []);
     })
 
@@ -69,8 +69,8 @@ run_appends file bytes ended rows notes more later a b c h w = record {
   rows_written = w.rows_written ∙ ap (λ (s : List ℕ). s ++ more) h.rows_written ∙ append_assoc (a.written Rows) rows more;
   notes_written = w.notes_written ∙ ap (λ (s : List ℕ). s ++ later) h.notes_written ∙ append_assoc (a.written Notes) notes later;
   calls = h.calls ++ map (Wrote Notes) w.note_lengths ++ map (Wrote Rows) w.row_lengths;
-  quiet = All-append IsNoOpening (h.calls ++ map (Wrote Notes) w.note_lengths) (map (Wrote Rows) w.row_lengths)
-      (All-append IsNoOpening h.calls (map (Wrote Notes) w.note_lengths) h.quiet (none_writes Notes w.note_lengths)) (none_writes Rows w.row_lengths);
+  quiet = All-append ReadsOrWrites (h.calls ++ map (Wrote Notes) w.note_lengths) (map (Wrote Rows) w.row_lengths)
+      (All-append ReadsOrWrites h.calls (map (Wrote Notes) w.note_lengths) h.quiet (none_writes Notes w.note_lengths)) (none_writes Rows w.row_lengths);
   trace = w.trace ∙ ap (λ (l : List CallMade). l ++ map (Wrote Notes) w.note_lengths ++ map (Wrote Rows) w.row_lengths) h.trace
       ∙ ap (λ (l : List CallMade). l ++ map (Wrote Rows) w.row_lengths) (append_assoc a.trace h.calls (map (Wrote Notes) w.note_lengths))
       ∙ append_assoc a.trace (h.calls ++ map (Wrote Notes) w.note_lengths) (map (Wrote Rows) w.row_lengths);

@@ -15,7 +15,7 @@ use Rattle.jet_file.specs.Outside.{Told, WhereTold, Opened, Opening, OpensFile, 
 use Rattle.jet_file.proofs.ReadLemmas.{opened_rest}
 use Rattle.jet_cli.specs.LineStops.{IsBadIn, IsBadLineAt, IsBadOf, RunStops, StepStops}
 use Rattle.jet_cli.specs.inner.Progress.{HasRun, Progress}
-use Rattle.jet_worker.specs.Calls.{Calling, IsNoOpening, OpensInOrder, part_place}
+use Rattle.jet_worker.specs.Calls.{Calling, ReadsOrWrites, OpensInOrder, part_place}
 use Rattle.jet_worker.specs.Feeding.{FailsAt}
 use Rattle.jet_worker.specs.Stopping.{IsCallIn, IsNoBadLine, LastOf}
 use Rattle.jet_worker.specs.declared.stop.Call.{Call}
@@ -53,7 +53,7 @@ run_stops c file bytes ended rows notes stop old start now next bad opens run st
           ∙ ap (λ (l : List CallMade). l ++ stops.last) (append_assoc (old.trace ++ Opened c.file file ∷ []) run.calls stops.calls)
           ∙ append_assoc (old.trace ++ Opened c.file file ∷ []) calls stops.last ∙ append_assoc old.trace (Opened c.file file ∷ []) (calls ++ stops.last);
       did = record {
-        opens = (refl, All-append IsNoOpening calls stops.last (All-append IsNoOpening run.calls stops.calls run.quiet stops.quiet) (none_last such stop stops.last (none_in (Part 0) file) stops.fails));
+        opens = (refl, All-append ReadsOrWrites calls stops.last (All-append ReadsOrWrites run.calls stops.calls run.quiet stops.quiet) (none_last such stop stops.last (none_in (Part 0) file) stops.fails));
         fails = named_after part_place (Part 0) c.file file calls stop stops.last refl stops.fails;
         bad = bad_of c found.0 old stop found.1 (bad found.0 (rest_of now file) (sym (opened_rest c.file found.0 file old start found.1 opens) ∙ run.rest) run.end);
       };

@@ -1,13 +1,15 @@
 -- The calls of a command on the outside, however it ends, and which of them a fault names.
-use Rattle.std.specs.Prelude.{◌≡◌, ⊤, ℕ, ◌+◌, ◌≤◌, List, [], ◌∷◌, ◌++◌, map, sum, All, Option, Some, None}
+use Rattle.std.specs.Prelude.{◌≡◌, ◌⊎◌, ⊤, ℕ, ◌+◌, ◌≤◌, List, [], ◌∷◌, ◌++◌, map, sum, All, Option, Some, None}
 use Rattle.jet_file.specs.Outside.{CallMade, Told}
 use Rattle.jet_flow.specs.DataFiles.{file_name}
 use Rattle.jet_worker.specs.Calls.{EndsFailed, OpensInOrder, ReadsInOrder, part_place}
+use Rattle.jet_worker.specs.Checked.{HaveTurns, numbered}
 use Rattle.jet_worker.specs.declared.stop.Spot.{Spot}
 use Rattle.jet_worker.specs.declared.stop.Spot.TheVariants.{Job, Part}
 use Rattle.jet_worker.specs.declared.stop.Stop.{Stop}
 use Rattle.jet_worker.specs.declared.stop.Stop.TheVariants.{BadLine, Outside, NoMemory}
 use Rattle.jet_cli.specs.JobWords.{JobCommand}
+use Rattle.jet_cli.specs.JobChecks.{HasChecks}
 use Rattle.jet_cli.specs.JobData.{files_of}
 use Rattle.jet_cli.specs.Words.{JetCommand, WindowOf, PlanOf, CheckOf}
 
@@ -37,19 +39,21 @@ pub record ReadsJob (name : List ℕ) (calls : List CallMade) : Type 0 where
   pub order : ReadsInOrder (name ∷ []) calls
   pub few : All (λ t. sum t.counts ≤ most_text) order.turns
 
--- first the calls for the job file, and then those for the data files of its job
-pub record ChecksJob (c : JobCommand) (content : List ℕ → Option (List ℕ)) (calls : List CallMade) : Type 0 where
+-- first the calls for the job file, and then those for the data files of its job; the line of a file was written before
+-- the next file was read
+pub record ChecksJob (c : JobCommand) (told : Told) (calls : List CallMade) : Type 0 where
   pub first : List CallMade
   pub later : List CallMade
   pub calls_are : calls ≡ first ++ later
   pub job : ReadsJob c.job first
-  pub files : ReadsInOrder (map file_name (files_of (content c.job))) later
+  pub files : ReadsInOrder (map file_name (files_of (told.content c.job))) later
+  pub turns : (files.turns ≡ []) ⊎ ((job : HasChecks c told) × HaveTurns job.checks told (numbered job.checks) files.turns)
 
 -- the calls of a command come in its order, and no other file is opened
 abbrev pub IsInOrder : JetCommand → List CallMade → Told → Told → Type 0
 IsInOrder (WindowOf c) calls old new = OpensInOrder (c.file ∷ []) calls
 IsInOrder (PlanOf c) calls old new = ReadsJob c.job calls
-IsInOrder (CheckOf c) calls old new = ChecksJob c old.content calls
+IsInOrder (CheckOf c) calls old new = ChecksJob c old calls
 
 -- where the stop is for a call that failed, it names the last one
 abbrev pub StopNamed : (Spot → Option ℕ) → Stop → List CallMade → Type 0

@@ -1,32 +1,19 @@
 -- What the answers say to `check`.
-use Rattle.std.specs.Prelude.{◌≡◌, ◌⊎◌, ⊤, Any, ℕ, ◌+◌, Bool, List, ◌++◌, length, All, Option, Some, None, Ok, IsSome}
+use Rattle.std.specs.Prelude.{◌≡◌, ◌⊎◌, ⊤, Any, ℕ, ◌+◌, Bool, List, ◌++◌, length, All, Option, Some, None, IsSome}
 use Rattle.jet_lines.specs.declared.fault.LineFault.{LineFault}
 use Rattle.jet_file.specs.Headline.{IsReadWhole}
 use Rattle.jet_file.specs.Outside.{CallMade, Told}
 use Rattle.jet_flow.specs.DataFiles.{file_name}
-use Rattle.jet_job.specs.Jobs.{job_at}
-use Rattle.jet_job.specs.declared.job_text.JobText.{JobText}
-use Rattle.jet_plan.specs.Plans.{IsValid}
 use Rattle.jet_worker.specs.Calls.{EndsFailed, ReadsInOrder}
-use Rattle.jet_worker.specs.CheckText.{Checks}
-use Rattle.jet_worker.specs.Checked.{IsBadLine, IsBegun, IsCheckOf, IsChecked, IsGood, names_of, numbered}
+use Rattle.jet_worker.specs.Checked.{IsBadLine, IsBegun, IsChecked, IsGood, names_of, numbered}
 use Rattle.jet_cli.specs.CallOrder.{ChecksJob, ReadsJob, check_place}
+use Rattle.jet_cli.specs.JobChecks.{HasChecks}
 use Rattle.jet_cli.specs.JobData.{files_of}
 use Rattle.jet_cli.specs.JobWords.{JobCommand}
-use Rattle.jet_cli.specs.Refusals.{text_refusal, with_options}
+use Rattle.jet_cli.specs.Refusals.{text_refusal}
 use Rattle.jet_worker.specs.declared.stop.Stop.TheVariants.{BadLine, Outside, NoMemory}
 use Rattle.jet_cli.specs.declared.halt.Halt.{Halt}
 use Rattle.jet_cli.specs.declared.halt.Halt.TheVariants.{Refused, Stopped}
-
--- the job file of a command has a valid job, with the options put over, and this is what a check of its files is of
-pub record HasChecks (c : JobCommand) (old : Told) : Type 0 where
-  pub content : List ℕ
-  pub job : JobText
-  pub content_is : old.content c.job ≡ Some content
-  pub job_is : job_at content ≡ Ok job
-  pub valid : IsValid job.dag (with_options c.options job.settings)
-  pub checks : Checks
-  pub is : IsCheckOf job.dag (with_options c.options job.settings) checks
 
 -- what Done to `check` says, where the outside tells its content
 pub record IsCheckedJob (c : JobCommand) (before now : ℕ → Bool) (calls : List CallMade) (old new : Told) : Type 0 where
@@ -73,7 +60,7 @@ WhyHalted c (Stopped NoMemory) calls old new = HasBegunCheck c old new
 
 -- `check` ends early, and its calls were in order
 pub record CheckHalts (c : JobCommand) (halt : Halt) (calls : List CallMade) (old new : Told) : Type 0 where
-  pub order : ChecksJob c old.content calls
+  pub order : ChecksJob c old calls
   pub why : WhyHalted c halt calls old new
 
 -- the job file is not there, or a data file of its job, where that is told

@@ -8,6 +8,7 @@ pub mod CallOrder
 pub mod CheckedJob
 pub mod Commands
 pub mod Halts
+pub mod JobChecks
 pub mod JobData
 pub mod JobFiles
 pub mod Planned

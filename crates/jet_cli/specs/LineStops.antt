@@ -9,7 +9,7 @@ use Rattle.jet_cli.specs.Refusals.{base_refusal}
 use Rattle.jet_cli.specs.Words.{WindowCommand}
 use Rattle.jet_cli.specs.declared.halt.Halt.{Halt}
 use Rattle.jet_cli.specs.declared.halt.Halt.TheVariants.{Refused, Stopped}
-use Rattle.jet_worker.specs.Calls.{Calling, IsNoOpening, OpensInOrder, part_place}
+use Rattle.jet_worker.specs.Calls.{Calling, ReadsOrWrites, OpensInOrder, part_place}
 use Rattle.jet_worker.specs.Stopping.{IsWriting, LastIs}
 use Rattle.jet_worker.specs.declared.stop.Call.{Call}
 use Rattle.jet_worker.specs.declared.stop.Spot.{Spot}
@@ -26,7 +26,7 @@ IsBadLineAt number line NoMemory = ⊤
 -- a step that opens no file stopped, at such a call where one failed
 pub record StepStops (such : Call → Spot → Tried → Type 0) (stop : Stop) (old new : Told) : Type 0 where
   pub calls : List CallMade
-  pub quiet : All IsNoOpening calls
+  pub quiet : All ReadsOrWrites calls
   pub last : List CallMade
   pub fails : LastIs such stop last
   pub trace : new.trace ≡ old.trace ++ calls ++ last

@@ -7,7 +7,7 @@ use Rattle.jet_file.specs.Outside.{Told, CallMade, Read, rest_of}
 use Rattle.jet_file.specs.Pace.{taken_by, wrote_by, rows_until, IsPaced, Source}
 use Rattle.jet_file.specs.Text.{row_line}
 use Rattle.jet_file.specs.declared.outside.Out.TheVariants.{Rows}
-use Rattle.jet_worker.specs.Calls.{IsNoOpening, OpensInOrder}
+use Rattle.jet_worker.specs.Calls.{ReadsOrWrites, OpensInOrder}
 use Rattle.jet_cli.specs.Counting.{mark_after}
 use Rattle.jet_cli.specs.Words.{WindowCommand}
 
@@ -23,7 +23,7 @@ base_mark c content n = mark_after c (events_in most_lines 0 (whole_lines (take 
 -- watermark of then had closed, and the watermark has not fallen since
 pub record HasPaced (c : WindowCommand) (file : ℕ) (bytes : List ℕ) (closed : Option ℤ) (table : List RowValue) (old now : Told) : Type 0 where
   pub calls : List CallMade
-  pub quiet : All IsNoOpening calls
+  pub quiet : All ReadsOrWrites calls
   pub trace : now.trace ≡ old.trace ++ calls
   pub rest : rest_of old file ≡ bytes ++ rest_of now file
   pub taken : taken_by file calls ≡ length bytes

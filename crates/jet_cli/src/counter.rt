@@ -52,7 +52,7 @@ impl WindowCounter {
             → (self.new.window ≡ record self.old.window { events = self.old.window.events ++ event.now ∷ [] }) × (self.new.notes ≡ self.old.notes)
             × ((all : List EventValue) → HasTaken self.old.window all → HasTaken self.new.window (all ++ event.now ∷ []))) }
     {
-        if self.marker.mark().is_some_and(|mark| event.ts < mark.t) {
+        if self.marker.is_behind(event.ts) {
             let late = Late {
                 vertex: VERTEX,
                 event: *event,

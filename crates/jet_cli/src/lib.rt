@@ -44,6 +44,8 @@ pub use words::{Command, WindowWords, read_words};
 #[cfg(test)]
 mod tests;
 #[cfg(test)]
+mod tests_case;
+#[cfg(test)]
 mod tests_examples;
 #[cfg(test)]
 mod tests_jobs;

@@ -42,7 +42,8 @@ pub fn run_jet<R: Threads + Sync, O: Outside, G: Gate + Sync, L: Ledger>(
 
     // However it ends, its calls come in this order: the job file of `plan` and `check` is opened and read, and no more
     // bytes are taken of it than one too many; then the data files are opened in the order of their numbers, and no
-    // other; then each has its turn in `check`: reads of it, and then writes.
+    // other; then each has its turn in `check`: reads of it to its end, and then writes of its line, before the next file
+    // is read. A read takes at most 4096 bytes.
     ensures calls { IfSome (command_of (map string_bytes words.now))
         (λ c. WhereTold (Calling (IsInOrder c)) (O.told out.old) (O.told out.new)) }
 

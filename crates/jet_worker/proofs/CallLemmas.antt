@@ -1,12 +1,12 @@
 -- Openings and turns among the calls of a run.
-use Rattle.std.proofs.Common.{◌≡◌, ℕ, List, [], ◌∷◌, ◌++◌, map, All, refl, sym, ap, ◌∙◌, subst, inl, inr, append-nil}
+use Rattle.std.proofs.Common.{◌≡◌, ◌≤◌, ℕ, List, [], ◌∷◌, ◌++◌, map, All, refl, sym, ap, ◌∙◌, subst, inl, inr, append-nil}
 use Rattle.std.specs.Prelude.{flat_map}
 use Rattle.std.proofs.lemmas.Grind.{flat_map-append}
-use Rattle.std.proofs.lemmas.List.Elements.{All-append, All-cons, All-map, All-nil}
+use Rattle.std.proofs.lemmas.List.Elements.{All-append, All-cons, All-head, All-map, All-nil, All-tail}
 use Rattle.jet_file.specs.Outside.{CallMade, Opened, Read, Wrote, Missed, Tried}
 use Rattle.jet_file.specs.declared.outside.Out.{Out}
 use Rattle.jet_file.specs.declared.outside.Out.TheVariants as out
-use Rattle.jet_worker.specs.Calls.{IsEnd, IsNoOpening, OpensInOrder, Turn, opened_by, opening_call, turn_calls}
+use Rattle.jet_worker.specs.Calls.{ArePieces, IsEnd, OpensInOrder, ReadsOrWrites, Turn, most_piece, opened_by, opening_call, turn_calls}
 use Rattle.jet_worker.specs.Stopping.{IsCallIn, IsWriting, LastIs}
 use Rattle.jet_worker.specs.declared.stop.Call.{Call}
 use Rattle.jet_worker.specs.declared.stop.Call.TheVariants as call
@@ -52,25 +52,36 @@ opened_by_both opened turns =
 
 -- ---- calls that open nothing
 
-pub none_reads : (file : ℕ) (counts : List ℕ) → All IsNoOpening (map (Read file) counts)
-none_reads file counts = All-map IsNoOpening (Read file) counts (λ k d short. tt)
+pub none_reads : (file : ℕ) (counts : List ℕ) → ArePieces counts → All ReadsOrWrites (map (Read file) counts)
+none_reads file counts pieces = All-map ReadsOrWrites (Read file) counts pieces
 
-pub none_writes : (to : Out) (lengths : List ℕ) → All IsNoOpening (map (Wrote to) lengths)
-none_writes to lengths = All-map IsNoOpening (Wrote to) lengths (λ k d short. tt)
+pub one_piece : (n : ℕ) → n ≤ most_piece → ArePieces (n ∷ [])
+one_piece n small = All-cons (λ (k : ℕ). k ≤ most_piece) n [] small (All-nil (λ (k : ℕ). k ≤ most_piece))
 
-pub none_turn : (t : Turn) → All IsNoOpening (turn_calls t)
-none_turn t = All-append IsNoOpening (map (Read t.file) t.counts) (map (Wrote out.Rows) t.lengths) (none_reads t.file t.counts) (none_writes out.Rows t.lengths)
+pub pieces_more : (counts more : List ℕ) → ArePieces counts → ArePieces more → ArePieces (counts ++ more)
+pieces_more counts more h k = All-append (λ (n : ℕ). n ≤ most_piece) counts more h k
 
-pub none_turns : (turns : List Turn) → All IsNoOpening (flat_map turn_calls turns)
-none_turns [] = All-nil IsNoOpening
-none_turns (t ∷ turns) = All-append IsNoOpening (turn_calls t) (flat_map turn_calls turns) (none_turn t) (none_turns turns)
+pub none_writes : (to : Out) (lengths : List ℕ) → All ReadsOrWrites (map (Wrote to) lengths)
+none_writes to lengths = All-map ReadsOrWrites (Wrote to) lengths (λ k d short. tt)
+
+pub none_turn : (t : Turn) → ArePieces t.counts → All ReadsOrWrites (turn_calls t)
+none_turn t pieces = All-append ReadsOrWrites (map (Read t.file) t.counts) (map (Wrote out.Rows) t.lengths) (none_reads t.file t.counts pieces) (none_writes out.Rows t.lengths)
+
+-- the turn reads pieces
+abbrev pub HasPieces : Turn → Type 0
+HasPieces t = ArePieces t.counts
+
+pub none_turns : (turns : List Turn) → All HasPieces turns → All ReadsOrWrites (flat_map turn_calls turns)
+none_turns [] pieces = All-nil ReadsOrWrites
+none_turns (t ∷ turns) pieces =
+    All-append ReadsOrWrites (turn_calls t) (flat_map turn_calls turns) (none_turn t (All-head HasPieces t turns pieces)) (none_turns turns (All-tail HasPieces t turns pieces))
 
 -- the call that failed opens nothing
-pub none_last : (such : Call → Spot → Tried → Type 0) (stop : Stop) (last : List CallMade) → ((call : Call) (spot : Spot) (tried : Tried) → such call spot tried → IsNoOpening (Missed tried)) → LastIs such stop last
-    → All IsNoOpening last
-none_last such (BadLine part line why) last f h = subst (All IsNoOpening) (sym h) (All-nil IsNoOpening)
-none_last such (Outside call spot) last f h = subst (All IsNoOpening) (sym h.1) (All-cons IsNoOpening (Missed h.0) [] (f call spot h.0 h.2) (All-nil IsNoOpening))
-none_last such NoMemory last f h = subst (All IsNoOpening) (sym h) (All-nil IsNoOpening)
+pub none_last : (such : Call → Spot → Tried → Type 0) (stop : Stop) (last : List CallMade) → ((call : Call) (spot : Spot) (tried : Tried) → such call spot tried → ReadsOrWrites (Missed tried)) → LastIs such stop last
+    → All ReadsOrWrites last
+none_last such (BadLine part line why) last f h = subst (All ReadsOrWrites) (sym h) (All-nil ReadsOrWrites)
+none_last such (Outside call spot) last f h = subst (All ReadsOrWrites) (sym h.1) (All-cons ReadsOrWrites (Missed h.0) [] (f call spot h.0 h.2) (All-nil ReadsOrWrites))
+none_last such NoMemory last f h = subst (All ReadsOrWrites) (sym h) (All-nil ReadsOrWrites)
 
 pub last_weaker : (such more : Call → Spot → Tried → Type 0) (stop : Stop) (last : List CallMade) → ((call : Call) (spot : Spot) (tried : Tried) → such call spot tried → more call spot tried) → LastIs such stop last
     → LastIs more stop last

@@ -14,6 +14,7 @@ use Rattle.jet_worker.specs.declared.stop.Call.{Call}
 use Rattle.jet_worker.specs.declared.stop.Call.TheVariants.{Write}
 use Rattle.jet_worker.specs.declared.stop.Spot.{Spot}
 use Rattle.jet_worker.specs.declared.stop.Spot.TheVariants.{Part, Rows}
+use Rattle.jet_worker.specs.inner.LineLaws.{LineLaws}
 use Rattle.jet_worker.specs.inner.Tallying.{Tallied}
 use Rattle.jet_worker.specs.declared.stop.Stop.{Stop}
 use Rattle.jet_worker.specs.declared.stop.Stop.TheVariants.{BadLine, Outside, NoMemory}
@@ -31,7 +32,9 @@ goes_unread c p at stop start now = goes_weaker (StopsReading c p at stop) (Stop
   rows = ap (λ w. w out.Rows) h.reads.written ∙ sym (append-nil (a.written out.Rows));
   notes = ap (λ w. w out.Notes) h.reads.written;
   counts = h.reads.counts;
+  pieces = h.reads.pieces;
   lengths = [];
+  order = inl refl;
   last = h.reads.last;
   fails = h.reads.fails;
   trace = h.reads.trace ∙ ap (λ (l : List CallMade). a.trace ++ l ++ h.reads.last) (sym (append-nil (map (Read at) h.reads.counts)));
@@ -47,7 +50,9 @@ goes_untold c p at count tally start now = goes_weaker (HasTallied c p at count 
   rows = ap (λ w. w out.Rows) h.run.written ∙ sym (append-nil (a.written out.Rows));
   notes = ap (λ w. w out.Notes) h.run.written;
   counts = h.run.counts;
+  pieces = h.run.pieces;
   lengths = [];
+  order = inl refl;
   last = [];
   fails = refl;
   trace = h.run.trace ∙ ap (λ (l : List CallMade). a.trace ++ l) (sym (append-nil (map (Read at) h.run.counts))) ∙ sym (append-nil (a.trace ++ (map (Read at) h.run.counts ++ [])));
@@ -62,12 +67,12 @@ none_bad c p (Outside call spot) k bytes = tt
 none_bad c p NoMemory k bytes = tt
 
 -- the text was written
-checked : (c : Checks) (p : ℕ × DataFile) (at count : ℕ) (tally : Tally) (text : List ℕ) (a b d : Told) → ((bytes : List ℕ) → Tallied c p (lines_of bytes) tally → count ≡ length (lines_of bytes) → text ≡ check_line c p bytes)
+checked : (laws : LineLaws) (c : Checks) (p : ℕ × DataFile) (at count : ℕ) (tally : Tally) (text : List ℕ) (a b d : Told) → ((bytes : List ℕ) → Tallied c p (lines_of bytes) tally → count ≡ length (lines_of bytes) → text ≡ check_line c p bytes)
     → HasTallied c p at count tally a b → HasWritten out.Rows text [] b d → HasChecked c p at a d
-checked c p at count tally text a b d is h w = record {
+checked laws c p at count tally text a b d is h w = record {
   bytes = h.bytes;
   left = h.left;
-  good = none_is c p h.bytes tally h.tallied;
+  good = none_is laws c p h.bytes tally h.tallied;
   name = ap (λ place. (place at).name) w.place ∙ h.run.name;
   taken = ap (λ place. (place at).taken) w.place ∙ h.run.taken;
   others = λ other differs. ap (λ place. place other) w.place ∙ h.run.others other differs;
@@ -75,7 +80,10 @@ checked c p at count tally text a b d is h w = record {
   rows = w.written ∙ ap (λ (l : List ℕ). l ++ text) (ap (λ f. f out.Rows) h.run.written) ∙ ap (λ (l : List ℕ). a.written out.Rows ++ l) (is h.bytes h.tallied h.count_is);
   notes = w.others out.Notes notes_not_rows ∙ ap (λ f. f out.Notes) h.run.written;
   counts = h.run.counts;
+  pieces = h.run.pieces;
+  reads = h.run.sum;
   lengths = w.lengths;
+  writes = w.sum ∙ ap length (is h.bytes h.tallied h.count_is);
   trace = w.trace ∙ append-nil (b.trace ++ map (Wrote out.Rows) w.lengths) ∙ ap (λ (l : List CallMade). l ++ map (Wrote out.Rows) w.lengths) h.run.trace
       ∙ append_assoc a.trace (map (Read at) h.run.counts) (map (Wrote out.Rows) w.lengths);
 }
@@ -88,15 +96,15 @@ rows_last spot file (Outside failed at) last h =
 rows_last spot file NoMemory last h = h
 
 -- the text was not all written
-unwritten : (c : Checks) (p : ℕ × DataFile) (at count : ℕ) (tally : Tally) (text : List ℕ) (stop : Stop) (a b d : Told) → ((bytes : List ℕ) → Tallied c p (lines_of bytes) tally → count ≡ length (lines_of bytes) → text ≡ check_line c p bytes)
+unwritten : (laws : LineLaws) (c : Checks) (p : ℕ × DataFile) (at count : ℕ) (tally : Tally) (text : List ℕ) (stop : Stop) (a b d : Told) → ((bytes : List ℕ) → Tallied c p (lines_of bytes) tally → count ≡ length (lines_of bytes) → text ≡ check_line c p bytes)
     → IsNoBadLine stop → HasTallied c p at count tally a b → StopsWriting out.Rows text stop b d → StopsChecking c p at stop a d
-unwritten c p at count tally text stop a b d is never h w = record {
+unwritten laws c p at count tally text stop a b d is never h w = record {
   front = w.front;
   bad = none_bad c p stop never (rest_of a at);
   whole = inr (
     never,
     record {
-      good = ap (first_bad c p) h.left ∙ none_is c p h.bytes tally h.tallied;
+      good = ap (first_bad c p) h.left ∙ none_is laws c p h.bytes tally h.tallied;
       rest = w.rest;
       parts = ap (check_line c p) h.left ∙ sym (is h.bytes h.tallied h.count_is) ∙ w.parts;
     },
@@ -105,17 +113,19 @@ unwritten c p at count tally text stop a b d is never h w = record {
   rows = w.written ∙ ap (λ (l : List ℕ). l ++ w.front) (ap (λ f. f out.Rows) h.run.written);
   notes = w.others out.Notes notes_not_rows ∙ ap (λ f. f out.Notes) h.run.written;
   counts = h.run.counts;
+  pieces = h.run.pieces;
   lengths = w.lengths;
+  order = inr (h.run.sum ∙ ap length (sym h.left));
   last = w.last;
   fails = rows_last (Part p.0) at stop w.last w.fails;
   trace = w.trace ∙ ap (λ (l : List CallMade). l ++ map (Wrote out.Rows) w.lengths ++ w.last) h.run.trace
       ∙ ap (λ (l : List CallMade). l ++ w.last) (append_assoc a.trace (map (Read at) h.run.counts) (map (Wrote out.Rows) w.lengths));
 }
 
-pub goes_text : (c : Checks) (p : ℕ × DataFile) (at count : ℕ) (tally : Tally) (text : List ℕ) (r : Result (Unit {0}) Stop) (start now next : Option Told)
+pub goes_text : (laws : LineLaws) (c : Checks) (p : ℕ × DataFile) (at count : ℕ) (tally : Tally) (text : List ℕ) (r : Result (Unit {0}) Stop) (start now next : Option Told)
     → ((bytes : List ℕ) → Tallied c p (lines_of bytes) tally → count ≡ length (lines_of bytes) → text ≡ check_line c p bytes) → IfErr r IsNoBadLine
     → WhereTold (HasTallied c p at count tally) start now → WhereTold (WritesText out.Rows text r) now next → WhereTold (ChecksFile c p at r) start next
-goes_text c p at count tally text (Ok done) start now next is never h w =
-    goes_then (HasTallied c p at count tally) (HasWritten out.Rows text []) (HasChecked c p at) (λ a b d h w. checked c p at count tally text a b d is h w) start now next h w
-goes_text c p at count tally text (Err stop) start now next is never h w =
-    goes_then (HasTallied c p at count tally) (StopsWriting out.Rows text stop) (StopsChecking c p at stop) (λ a b d h w. unwritten c p at count tally text stop a b d is never h w) start now next h w
+goes_text laws c p at count tally text (Ok done) start now next is never h w =
+    goes_then (HasTallied c p at count tally) (HasWritten out.Rows text []) (HasChecked c p at) (λ a b d h w. checked laws c p at count tally text a b d is h w) start now next h w
+goes_text laws c p at count tally text (Err stop) start now next is never h w =
+    goes_then (HasTallied c p at count tally) (StopsWriting out.Rows text stop) (StopsChecking c p at stop) (λ a b d h w. unwritten laws c p at count tally text stop a b d is never h w) start now next h w

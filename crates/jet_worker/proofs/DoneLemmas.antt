@@ -1,6 +1,7 @@
 -- The check of all opened files, one after another.
 use Rattle.std.proofs.Common.{◌≡◌, ◌≢◌, ℕ, ◌+◌, ◌<◌, Bool, true, false, List, [], ◌∷◌, ◌++◌, map, length, get_or, Option, Some, None, All, refl, sym, ap, ◌∙◌, subst, inl, arith, append-nil, append_assoc}
 use Rattle.std.specs.Prelude.{IsSome, IsSomeAnd, flat_map, slice_get}
+use Rattle.std.specs.List.{AllZip}
 use Rattle.std.specs.Option.{unwrap_or}
 use Rattle.std.proofs.lemmas.Grind.{flat_map-append}
 use Rattle.std.proofs.lemmas.List.{map-append}
@@ -8,12 +9,12 @@ use Rattle.std.proofs.lemmas.List.Elements.{All-append, All-nil, All-cons, All-h
 use Rattle.jet_file.specs.Outside.{CallMade, Place, Told, rest_from, rest_of}
 use Rattle.jet_file.specs.declared.outside.Out.TheVariants as out
 use Rattle.jet_flow.specs.DataFiles.{DataFile, file_name}
-use Rattle.jet_worker.specs.Calls.{Calling, IsNoOpening, ReadsInOrder, Turn, opened_by, opening_call, turn_calls}
+use Rattle.jet_worker.specs.Calls.{Calling, ReadsOrWrites, Turn, opened_by, opening_call, turn_calls}
 use Rattle.jet_worker.specs.CheckText.{Checks, check_line, first_bad}
-use Rattle.jet_worker.specs.Checked.{AreThere, IsChecked, IsGood, IsRead, check_lines, content_of, names_of, numbered}
+use Rattle.jet_worker.specs.Checked.{AreThere, IsChecked, IsGood, IsRead, IsTurnOf, check_lines, content_of, numbered}
 use Rattle.jet_worker.specs.inner.FileChecks.{HasChecked}
 use Rattle.jet_worker.specs.inner.Opening.{AreApart, AreNew, HasOpened, IsUnread, Opened, opening_of, pair_of}
-use Rattle.jet_worker.proofs.CallLemmas.{opened_by_both, turns_more}
+use Rattle.jet_worker.proofs.CallLemmas.{HasPieces, opened_by_both, turns_more}
 use Rattle.jet_worker.proofs.OpenLemmas.{all_left, all_right, pair_at}
 use Rattle.jet_worker.proofs.OrderLemmas.{at_place, turns_order}
 
@@ -45,6 +46,10 @@ place_is p name taken one two = ap (λ (n : List ℕ). let q : Place = record { 
 abbrev pub IsTaken : Told → Told → Opened → Type 0
 IsTaken old now o = now.place o.at ≡ record { name = file_name o.file; taken = length (content_of old o.file) }
 
+-- the whole turn of a file
+abbrev pub TakesTurn : Checks → Told → ℕ × DataFile → Turn → Type 0
+TakesTurn c told p t = IsTurnOf c p (content_of told p.1) t
+
 -- the first files were read and are good, and their lines were written; the later ones are open
 pub record HasDone (c : Checks) (done later : List Opened) (old now : Told) : Type 0 where
   pub all : AreThere c old
@@ -58,6 +63,8 @@ pub record HasDone (c : Checks) (done later : List Opened) (old now : Told) : Ty
   pub notes : now.written out.Notes ≡ old.written out.Notes
   pub turns : List Turn
   pub files : map (λ (t : Turn). t.file) turns ≡ map (λ o. o.1) (map opening_of done)
+  pub each : AllZip (TakesTurn c old) (map pair_of done) turns
+  pub pieces : All HasPieces turns
   pub trace : now.trace ≡ old.trace ++ (map opening_call (map opening_of (done ++ later)) ++ flat_map turn_calls turns)
 
 pub none_done : (c : Checks) (all : List Opened) (a b : Told) → AreThere c a → HasOpened all a b → HasDone c [] all a b
@@ -73,6 +80,8 @@ none_done c all a b every h = record {
   notes = ap (λ w. w out.Notes) h.written;
   turns = [];
   files = refl;
+  each = tt;
+  pieces = All-nil HasPieces;
   trace = h.trace ∙ ap (λ (l : List CallMade). a.trace ++ l) (sym (append-nil (map opening_call (map opening_of all))));
 }
 
@@ -106,6 +115,14 @@ pub files_more : (done : List Opened) (o : Opened) (turns : List Turn) (t : Turn
 files_more done o turns t files is =
     map-append (λ (t : Turn). t.file) turns (t ∷ []) ∙ ap (λ (l : List ℕ). l ++ t.file ∷ []) files ∙ ap (λ (n : ℕ). map (λ o. o.1) (map opening_of done) ++ n ∷ []) is
     ∙ sym (ap (map (λ o. o.1)) (map-append opening_of done (o ∷ [])) ∙ map-append (λ (o : List ℕ × ℕ). o.1) (map opening_of done) (opening_of o ∷ []))
+
+-- turns that are those of files, with one more
+pub turns_push : (c : Checks) (a : Told) (done : List Opened) (o : Opened) (turns : List Turn) (t : Turn) → AllZip (TakesTurn c a) (map pair_of done) turns → TakesTurn c a (pair_of o) t
+    → AllZip (TakesTurn c a) (map pair_of (done ++ o ∷ [])) (turns ++ t ∷ [])
+turns_push c a [] o [] t h is = (is, tt)
+turns_push c a [] o (u ∷ turns) t h is = absurd h
+turns_push c a (x ∷ done) o [] t h is = absurd h
+turns_push c a (x ∷ done) o (u ∷ turns) t h is = (h.0, turns_push c a done o turns t h.1 is)
 
 pub trace_more : (a b d : List CallMade) (done later : List Opened) (o : Opened) (turns : List Turn) (t : Turn) → b ≡ a ++ (map opening_call (map opening_of (done ++ o ∷ later)) ++ flat_map turn_calls turns)
     → d ≡ b ++ turn_calls t → d ≡ a ++ (map opening_call (map opening_of ((done ++ o ∷ []) ++ later)) ++ flat_map turn_calls (turns ++ t ∷ []))
@@ -143,6 +160,9 @@ one_done c done later o a b d apart h k =
       notes = k.notes ∙ h.notes;
       turns = h.turns ++ turn ∷ [];
       files = files_more done o h.turns turn h.files refl;
+      each = turns_push c a done o h.turns turn h.each
+          (record { reads = k.reads ∙ ap length bytes; writes = k.writes ∙ ap (λ (l : List ℕ). length (check_line c (pair_of o) l)) bytes });
+      pieces = All-append HasPieces h.turns (turn ∷ []) h.pieces (All-cons HasPieces turn [] k.pieces (All-nil HasPieces));
       trace = trace_more a.trace b.trace d.trace done later o h.turns turn h.trace k.trace;
     }
   where
@@ -152,16 +172,19 @@ one_done c done later o a b d apart h k =
 -- ---- all files
 
 pub all_done : (c : Checks) (before now : ℕ → Bool) (all later : List Opened) (a b : Told) → map pair_of all ≡ numbered c → later ≡ [] → AreNew before now all → HasDone c all later a b → Calling (IsChecked c before now) a b
+unfolding turns_order
 all_done c before now all later a b pairs none numbers h =
     let calls : List CallMade = map opening_call (map opening_of all) ++ flat_map turn_calls h.turns in
     record {
-      calls = calls;
-      trace = h.trace ∙ ap (λ (l : List Opened). a.trace ++ (map opening_call (map opening_of l) ++ flat_map turn_calls h.turns)) (ap (λ (l : List Opened). all ++ l) none ∙ append-nil all);
+      calls = calls ++ [];
+      trace = h.trace ∙ ap (λ (l : List Opened). a.trace ++ (map opening_call (map opening_of l) ++ flat_map turn_calls h.turns)) (ap (λ (l : List Opened). all ++ l) none ∙ append-nil all)
+          ∙ ap (λ (l : List CallMade). a.trace ++ l) (sym (append-nil calls));
       did = record {
-        order = subst (ReadsInOrder (names_of c)) (append-nil calls)
-            (turns_order c all h.turns [] [] pairs (sym h.files ∙ sym (append-nil (map (λ (t : Turn). t.file) h.turns))) (All-nil IsNoOpening) (inl refl));
+        order = turns_order c all h.turns [] [] pairs (sym h.files ∙ sym (append-nil (map (λ (t : Turn). t.file) h.turns))) h.pieces (All-nil ReadsOrWrites) (inl refl);
+        turns = subst (λ (ps : List (ℕ × DataFile)). AllZip (TakesTurn c a) ps h.turns) pairs h.each;
         good = subst (All (IsGood c a)) pairs (All-map (IsGood c a) pair_of all h.good);
-        read = subst (All (IsRead before now calls a b)) pairs (All-map (IsRead before now calls a b) pair_of all (read calls (opened_by_both (map opening_of all) h.turns)));
+        read = subst (All (IsRead before now (calls ++ []) a b)) pairs
+            (All-map (IsRead before now (calls ++ []) a b) pair_of all (read (calls ++ []) (ap opened_by (append-nil calls) ∙ opened_by_both (map opening_of all) h.turns)));
         rows = h.rows ∙ ap (λ (ps : List (ℕ × DataFile)). a.written out.Rows ++ check_lines c a ps) pairs;
         notes = h.notes;
         kept = h.content;

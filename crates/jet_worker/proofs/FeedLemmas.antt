@@ -1,6 +1,7 @@
 -- What the steps of a run do to the outside.
 use Rattle.std.proofs.Common.{◌≡◌, ℕ, ◌+◌, ◌≤◌, List, [], ◌∷◌, ◌++◌, length, take, drop, true, false, Option, arith, ap, sym, ◌∙◌, subst, length-take-le, Err, append-nil, map, refl, take-append-drop, inl, inr, Result, Ok, OnOk}
 use Rattle.std.specs.Prelude.{IfErr}
+use Rattle.std.proofs.lemmas.List.Elements.{All-nil}
 use Rattle.jet_file.specs.Outside.{Told, CallMade, Place, Missed, Tried, Reading, Writing, Read, Wrote, WhereTold, ReadsFile, Stays, rest_of}
 use Rattle.jet_file.specs.declared.outside.Out.{Out}
 use Rattle.jet_file.specs.declared.outside.Out.TheVariants as out
@@ -8,7 +9,8 @@ use Rattle.jet_file.specs.declared.outside.OutFault.{OutFault}
 use Rattle.jet_file.specs.declared.outside.OutFault.TheVariants as fault
 use Rattle.jet_file.specs.Writing.{HasWritten, WritesFront, missed}
 use Rattle.jet_lines.specs.LinesValue.{LinesValue}
-use Rattle.jet_worker.specs.Feeding.{Appends, FailsAt, FailsPiece, Flushes, ReadsPiece, StopsReads, TakesPiece, WritesText, most_piece}
+use Rattle.jet_worker.specs.Feeding.{Appends, FailsAt, FailsPiece, Flushes, ReadsPiece, StopsReads, TakesPiece, WritesText}
+use Rattle.jet_worker.specs.Calls.{most_piece}
 use Rattle.jet_worker.specs.Stopping.{IsCallIn, IsWriting, LastIs, LastOf}
 use Rattle.jet_worker.specs.inner.Stopped.{stop_of, spot_of}
 use Rattle.jet_worker.specs.declared.stop.Call.{Call}
@@ -18,6 +20,7 @@ use Rattle.jet_worker.specs.declared.stop.Stop.{Stop}
 use Rattle.jet_worker.specs.declared.stop.Stop.TheVariants.{BadLine, Outside, NoMemory}
 use Rattle.jet_file.proofs.GoesLemmas.{goes_then, goes_weaker}
 use Rattle.jet_file.proofs.ReadLemmas.{rest_next}
+use Rattle.jet_worker.proofs.CallLemmas.{one_piece}
 
 -- ---- openings and reads
 
@@ -84,6 +87,7 @@ read_stops spot file stop a b h = record {
   content = ap (λ (t : Told). t.content) h.same;
   written = ap (λ (t : Told). t.written) h.same;
   counts = [];
+  pieces = All-nil (λ (n : ℕ). n ≤ most_piece);
   last = h.last;
   fails = read_last spot file stop h.last h.is;
   trace = ap (λ (t : Told). t.trace) h.same ∙ ap (λ (l : List CallMade). l ++ h.last) (sym (append-nil a.trace));
@@ -93,13 +97,14 @@ pub goes_read_stops : (spot : Spot) (file : ℕ) (stop : Stop) (old now : Option
 goes_read_stops spot file stop = goes_weaker (FailsAt call.Read spot (Reading file) stop) (StopsReads spot file stop) (read_stops spot file stop)
 
 -- the bytes were read, and no memory was found to keep them
-goes_unkept : (spot : Spot) (file : ℕ) (buffer : List ℕ) (n : ℕ) (before after : LinesValue) (stop : Stop) (old now : Option Told) → stop ≡ NoMemory → WhereTold (ReadsFile file buffer n) old now
+goes_unkept : (spot : Spot) (file : ℕ) (buffer : List ℕ) (n : ℕ) (before after : LinesValue) (stop : Stop) (old now : Option Told) → n ≤ length buffer → length buffer ≤ most_piece → stop ≡ NoMemory → WhereTold (ReadsFile file buffer n) old now
     → WhereTold (ReadsPiece {T = Unit {0}} spot file before after (Err stop)) old now
-goes_unkept spot file buffer n before after stop old now is =
+goes_unkept spot file buffer n before after stop old now fits most is =
     goes_weaker (ReadsFile file buffer n) (ReadsPiece {T = Unit {0}} spot file before after (Err stop)) (λ a b r. record {
       content = r.content;
       written = r.written;
       counts = n ∷ [];
+      pieces = one_piece n (omega (arith, fits, most));
       last = [];
       fails = subst (λ (s : Stop). LastIs (IsCallIn spot file) s []) (sym is) refl;
       trace = r.trace ∙ sym (append-nil (a.trace ++ Read file n ∷ []));
@@ -110,7 +115,7 @@ pub goes_kept : (spot : Spot) (file : ℕ) (buffer : List ℕ) (n : ℕ) (before
     → OnOk r (after ≡ record before { rest = before.rest ++ take n buffer; held = after.held }) → IfErr r (λ stop. stop ≡ NoMemory) → WhereTold (ReadsFile file buffer n) old now
     → WhereTold (ReadsPiece spot file before after r) old now
 goes_kept spot file buffer n before after (Ok done) old now fits most live is none h = goes_piece file buffer n before after old now fits most live is h
-goes_kept spot file buffer n before after (Err stop) old now fits most live is none h = goes_unkept spot file buffer n before after stop old now none h
+goes_kept spot file buffer n before after (Err stop) old now fits most live is none h = goes_unkept spot file buffer n before after stop old now fits most none h
 
 -- ---- writes
 

@@ -4,7 +4,6 @@ pub mod CheckLemmas
 pub mod CountLemmas
 pub mod DoneLemmas
 pub mod FeedLemmas
-pub mod FileLemmas
 pub mod FilesLemmas
 pub mod LoopLemmas
 pub mod OpenLemmas

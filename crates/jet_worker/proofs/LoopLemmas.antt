@@ -1,6 +1,8 @@
 -- The reading of one file to its end, step by step.
 use Rattle.std.proofs.Common.{◌≡◌, ℕ, ◌+◌, ◌-◌, ◌*◌, ◌<◌, ◌≤◌, Bool, true, false, cond, List, [], ◌∷◌, ◌++◌, length, Option, Some, refl, sym, ap, ◌∙◌, subst, arith, inl, inr, append-nil, append_assoc, length-append, length-take-le, take, get_or, map, nat_eq}
 use Rattle.std.proofs.lemmas.List.{map-append}
+use Rattle.std.proofs.lemmas.List.Elements.{All-nil}
+use Rattle.std.proofs.lemmas.List.Sums.{fold-append}
 use Rattle.std.specs.Str.Lines.{strip_carriage_return}
 use Rattle.jet_lines.specs.Cutting.{MayCome, NextIs}
 use Rattle.jet_lines.specs.Lines.{lines_of}
@@ -10,10 +12,12 @@ use Rattle.jet_lines.specs.declared.fault.LineFault.{LineFault}
 use Rattle.jet_lines.specs.declared.fault.LineFault.TheVariants as fault
 use Rattle.jet_file.specs.Outside.{Told, CallMade, Read, WhereTold, rest_of}
 use Rattle.jet_flow.specs.DataFiles.{DataFile}
+use Rattle.jet_worker.specs.Calls.{most_piece}
 use Rattle.jet_worker.specs.CheckText.{Checks}
 use Rattle.jet_worker.specs.Feeding.{PutsPiece, StopsReads, TakesPiece}
 use Rattle.jet_worker.specs.inner.FileChecks.{HasTaken, HasTallied, IsBadIn, Progress, StopsReading}
 use Rattle.jet_worker.specs.Stopping.{IsCallIn, IsNoBadLine, LastIs}
+use Rattle.jet_worker.specs.inner.LineLaws.{LineLaws}
 use Rattle.jet_worker.specs.inner.Tallying.{IsSmall, StopsAtLine, TakesLine, Tallied, next_fault}
 use Rattle.jet_worker.specs.declared.stop.Spot.{Spot}
 use Rattle.jet_worker.specs.declared.stop.Spot.TheVariants.{Part}
@@ -21,6 +25,7 @@ use Rattle.jet_worker.specs.declared.stop.Stop.{Stop}
 use Rattle.jet_worker.specs.declared.stop.Stop.TheVariants.{BadLine, Outside, NoMemory}
 use Rattle.jet_worker.specs.declared.tally.Tally.{Tally}
 use Rattle.jet_file.proofs.GoesLemmas.{goes_same, goes_then, goes_weaker}
+use Rattle.jet_worker.proofs.CallLemmas.{one_piece, pieces_more}
 use Rattle.jet_worker.proofs.TallyLemmas.{bad_is, long_fault, many_fault}
 
 -- what the loop over the lines of a file keeps
@@ -42,6 +47,8 @@ taken_starts at a = record {
   taken = omega arith;
   others = λ other differs. refl;
   counts = [];
+  sum = refl;
+  pieces = All-nil (λ (n : ℕ). n ≤ most_piece);
   trace = sym (append-nil a.trace);
 }
 
@@ -95,6 +102,8 @@ takes at bytes piece before after a b d is h t =
       taken = t.taken ∙ ap (λ (k : ℕ). k + length t.piece) h.taken ∙ omega (arith, ap length same, length-append bytes piece);
       others = λ other differs. t.others other differs ∙ h.others other differs;
       counts = h.counts ++ length t.piece ∷ [];
+      sum = fold-append ◌+◌ 0 h.counts (length t.piece ∷ []) ∙ ap (λ (k : ℕ). k + length t.piece) h.sum ∙ omega (arith, ap length same, length-append bytes piece);
+      pieces = pieces_more h.counts (length t.piece ∷ []) h.pieces (one_piece (length t.piece) t.small);
       trace = t.trace ∙ ap (λ (l : List CallMade). l ++ Read at (length t.piece) ∷ []) h.trace ∙ append_assoc a.trace (map (Read at) h.counts) (Read at (length t.piece) ∷ [])
           ∙ ap (λ (l : List CallMade). a.trace ++ l) (sym (map-append (Read at) h.counts (length t.piece ∷ [])));
     }
@@ -187,6 +196,7 @@ stops c p at bytes ended stop start now next bad run s = record {
     content = s.content ∙ run.content;
     written = s.written ∙ run.written;
     counts = run.counts ++ s.counts;
+    pieces = pieces_more run.counts s.counts run.pieces s.pieces;
     last = s.last;
     fails = s.fails;
     trace = s.trace ∙ ap (λ (l : List CallMade). l ++ map (Read at) s.counts ++ s.last) run.trace ∙ ap (λ (l : List CallMade). l ++ s.last)
@@ -196,26 +206,26 @@ stops c p at bytes ended stop start now next bad run s = record {
 
 -- no call was made, and none failed
 here : (spot : Spot) (at : ℕ) (stop : Stop) (a : Told) → LastIs (IsCallIn spot at) stop [] → StopsReads spot at stop a a
-here spot at stop a h = record { content = refl; written = refl; counts = []; last = []; fails = h; trace = sym (append-nil (a.trace ++ []) ∙ append-nil a.trace) }
+here spot at stop a h = record { content = refl; written = refl; counts = []; pieces = All-nil (λ (n : ℕ). n ≤ most_piece); last = []; fails = h; trace = sym (append-nil (a.trace ++ []) ∙ append-nil a.trace) }
 
-module _ (c : Checks) (p : ℕ × DataFile) (at : ℕ) (start now : Option Told) (lines : LinesValue) (tally : Tally) (h : Progress c p at start now lines tally) where
+module _ (laws : LineLaws) (c : Checks) (p : ℕ × DataFile) (at : ℕ) (start now : Option Told) (lines : LinesValue) (tally : Tally) (h : Progress c p at start now lines tally) where
   bad_at : (content more : List ℕ) (line : List ℕ) (others : List (List ℕ)) (f : LineFault) (part n : ℕ) → content ≡ h.bytes ++ more → MayCome lines.ended more
       → lines_of (lines.rest ++ more) ≡ line ∷ others → part ≡ p.0 → n ≡ lines.number + 1 → next_fault c p h.given line ≡ Some f → IsBadIn c p content (BadLine part n f)
   bad_at content more line others f part n is may next part_is n_is fault_is =
       let parts : lines_of content ≡ h.given ++ line ∷ others = ap lines_of is ∙ h.cut more may ∙ ap (λ (l : List (List ℕ)). h.given ++ l) next in
       let number : n ≡ length h.given + 1 = n_is ∙ ap (λ (k : ℕ). k + 1) h.number in
-      (part_is, bad_is c p content h.given line others f tally h.tallied parts fault_is ∙ ap (λ (k : ℕ). Some (k, f)) (sym number))
+      (part_is, bad_is laws c p content h.given line others f tally h.tallied parts fault_is ∙ ap (λ (k : ℕ). Some (k, f)) (sym number))
 
   -- a line that the cutter refused
   bad_cut : (n part : ℕ) (f : LineFault) (lines' : LinesValue) → part ≡ p.0 → NextIs lines (cut.Bad n f) lines' → (content more : List ℕ) → content ≡ h.bytes ++ more → MayCome lines.ended more → IsBadIn c p content (BadLine part n f)
   bad_cut n part fault.TooLong lines' part_is k content more is may =
       let found = k.2 more may in
       let room : length h.given < c.most = omega (arith, k.0, k.1, h.most, h.number) in
-      bad_at content more found.0 found.1 fault.TooLong part n is may found.2 part_is k.0 (long_fault c p h.given found.0 room found.3)
+      bad_at content more found.0 found.1 fault.TooLong part n is may found.2 part_is k.0 (long_fault laws c p h.given found.0 room found.3)
   bad_cut n part fault.TooMany lines' part_is k content more is may =
       let found = k.2 more may in
       let full : c.most ≤ length h.given = omega (arith, k.0, k.1, h.most, h.number) in
-      bad_at content more found.0 found.1 fault.TooMany part n is may found.2 part_is k.0 (many_fault c p h.given found.0 full)
+      bad_at content more found.0 found.1 fault.TooMany part n is may found.2 part_is k.0 (many_fault laws c p h.given found.0 full)
   bad_cut n part (fault.BadByte at) lines' part_is k content more is may = absurd k
   bad_cut n part fault.Quote lines' part_is k content more is may = absurd k
   bad_cut n part fault.Fields lines' part_is k content more is may = absurd k
@@ -249,6 +259,7 @@ module _ (c : Checks) (p : ℕ × DataFile) (at : ℕ) (start now : Option Told)
       (λ a b r. stops c p at h.bytes lines.ended stop a b b (bad_read n part lines' stop part_is next (subst (λ (l : List ℕ). StopsAtLine part n l tally stop) same s)) r
       (here (Part p.0) at stop b (line_told part n line stop s))) start now h.told
 
+module _ (c : Checks) (p : ℕ × DataFile) (at : ℕ) (start now : Option Told) (lines : LinesValue) (tally : Tally) (h : Progress c p at start now lines tally) where
   none_bad : (stop : Stop) → IsNoBadLine stop → (content : List ℕ) → IsBadIn c p content stop
   none_bad (BadLine part line why) k content = absurd k
   none_bad (Outside call spot) k content = tt

@@ -8,7 +8,7 @@ use Rattle.std.proofs.lemmas.List.FromFn.{length-enumerate_from}
 use Rattle.jet_file.specs.Outside.{CallMade, Missed, Tried, Opening, Reading, Writing}
 use Rattle.jet_file.specs.declared.outside.Out.TheVariants as out
 use Rattle.jet_flow.specs.DataFiles.{DataFile, file_name}
-use Rattle.jet_worker.specs.Calls.{IsCallOf, IsEnd, IsNoOpening, OpensInOrder, ReadsInOrder, Turn, opened_by, opening_call, part_place, turn_calls}
+use Rattle.jet_worker.specs.Calls.{IsCallOf, IsEnd, ReadsOrWrites, OpensInOrder, ReadsInOrder, Turn, opened_by, opening_call, part_place, turn_calls}
 use Rattle.jet_worker.specs.CheckText.{Checks}
 use Rattle.jet_worker.specs.Checked.{names_of, numbered}
 use Rattle.jet_worker.specs.inner.Opening.{IsNextOpening, Opened, opening_of, pair_of}
@@ -19,7 +19,7 @@ use Rattle.jet_worker.specs.declared.stop.Spot.{Spot}
 use Rattle.jet_worker.specs.declared.stop.Spot.TheVariants.{Job, Part, Rows, Notes}
 use Rattle.jet_worker.specs.declared.stop.Stop.{Stop}
 use Rattle.jet_worker.specs.declared.stop.Stop.TheVariants.{BadLine, Outside, NoMemory}
-use Rattle.jet_worker.proofs.CallLemmas.{ends_last, none_turns, opened_by_openings, opens_then}
+use Rattle.jet_worker.proofs.CallLemmas.{HasPieces, ends_last, none_turns, opened_by_openings, opens_then}
 
 -- ---- names
 
@@ -77,7 +77,7 @@ at_seam (suc k) (x ∷ done) later o is = at_seam k done later o (omega (arith, 
 -- ---- while files are opened
 
 pub opens_none : (names : List (List ℕ)) → OpensInOrder names []
-opens_none [] = All-nil IsNoOpening
+opens_none [] = All-nil ReadsOrWrites
 opens_none (name ∷ names) = tt
 
 opens_next : (files : List DataFile) (n : ℕ) (tried : Tried) → IsSomeAnd (slice_get files n) (λ file. tried ≡ Opening (file_name file)) → OpensInOrder (map file_name (drop n files)) (Missed tried ∷ [])
@@ -131,12 +131,12 @@ no_calls names = record { opens = opens_none names; opened = []; turns = []; wai
 
 -- all files were opened, and the first had their turns
 unfoldable pub turns_order : (c : Checks) (all : List Opened) (turns : List Turn) (waiting : List ℕ) (last : List CallMade) → map pair_of all ≡ numbered c
-    → map (λ o. o.1) (map opening_of all) ≡ map (λ (t : Turn). t.file) turns ++ waiting → All IsNoOpening last → IsEnd last
+    → map (λ o. o.1) (map opening_of all) ≡ map (λ (t : Turn). t.file) turns ++ waiting → All HasPieces turns → All ReadsOrWrites last → IsEnd last
     → ReadsInOrder (names_of c) (map opening_call (map opening_of all) ++ flat_map turn_calls turns ++ last)
-turns_order c all turns waiting last pairs order none end =
+turns_order c all turns waiting last pairs order pieces none end =
     let opened : List (List ℕ × ℕ) = map opening_of all in
     let later : List CallMade = flat_map turn_calls turns ++ last in
-    let quiet : All IsNoOpening later = All-append IsNoOpening (flat_map turn_calls turns) last (none_turns turns) none in
+    let quiet : All ReadsOrWrites later = All-append ReadsOrWrites (flat_map turn_calls turns) last (none_turns turns pieces) none in
     let names : map (λ o. o.0) opened ++ [] ≡ names_of c = append-nil (map (λ o. o.0) opened) ∙ sym (names_all 0 c.files all pairs) in
     record {
       opens = subst (λ (ns : List (List ℕ)). OpensInOrder ns (map opening_call opened ++ flat_map turn_calls turns ++ last)) names
@@ -171,7 +171,7 @@ call_named place_of before mine k at Write Notes (Writing out.Rows) place is h =
 call_named place_of before mine k at Write Notes (Writing out.Notes) place is h = tt
 
 -- such a call opens nothing
-pub none_in : (mine : Spot) (at : ℕ) (call : Call) (spot : Spot) (tried : Tried) → IsCallIn mine at call spot tried → IsNoOpening (Missed tried)
+pub none_in : (mine : Spot) (at : ℕ) (call : Call) (spot : Spot) (tried : Tried) → IsCallIn mine at call spot tried → ReadsOrWrites (Missed tried)
 none_in mine at Open spot (Opening name) h = absurd h
 none_in mine at Read spot (Opening name) h = absurd h
 none_in mine at Write Job (Opening name) h = absurd h

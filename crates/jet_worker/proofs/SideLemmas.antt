@@ -12,10 +12,10 @@ use Rattle.jet_lines.specs.Readings.{side_line}
 use Rattle.jet_lines.specs.declared.fault.LineFault.{LineFault}
 use Rattle.jet_lines.specs.declared.fault.LineFault.TheVariants.{KeyFull}
 use Rattle.jet_flow.specs.SideFiles.{first_bad_row, most_rows, reading_after, row_after, rows_of, rows_with, side_readings}
+use Rattle.jet_worker.specs.inner.LineLaws.{SideLaws}
 use Rattle.jet_worker.specs.inner.Tallying.{CountsRow, RefusesRow, RefusesSideLine, SideTallied, TakesSideLine, rows_at, side_after, side_rows}
 use Rattle.jet_worker.specs.declared.side_tally.SideTally.{SideTally}
 use Rattle.jet_worker.proofs.CountLemmas.{count_last}
-use Rattle.jet_worker.proofs.FileLemmas.{all_items, faults_behind, good_append, length_readings, no_faults, numbered_fits, readings_append}
 
 abbrev Reading : Type 0
 Reading = Result (Option SideValue) LineFault
@@ -110,90 +110,97 @@ same_items rows (Ok (Some s) ∷ xs) ok =
     ∙ ap (λ (zs : List SideValue). s ∷ zs) (same_items (rows ++ s ∷ []) xs good.1)
 same_items rows (Err f ∷ xs) ok = cc ok
 
--- ---- the first bad line
-pub no_bad_row : (most : ℕ) (bytes : List ℕ) → list_all is_ok (side_after [] (readings_in side_line most (lines_of bytes))) ≡ true
-    → (first_bad_row most bytes ≡ None) × (rows_of most bytes ≡ side_rows most (lines_of bytes))
-no_bad_row most bytes good =
-    let is : side_readings most bytes ≡ side_after [] (readings side_line most bytes) = readings_are most bytes in (
-      ap (λ (rs : List Reading). first_of (filter_map fault_of (enumerate_from 1 rs))) is ∙ ap first_of (no_faults 1 (side_after [] (readings side_line most bytes)) good),
-      ap items_of is ∙ all_items (side_after [] (readings side_line most bytes)) good ∙ same_items [] (readings side_line most bytes) good,
-    )
-
-pub bad_row : (most : ℕ) (bytes : List ℕ) (given : List (List ℕ)) (line : List ℕ) (others : List (List ℕ)) (why : LineFault)
-    → list_all is_ok (side_after [] (readings_in side_line most given)) ≡ true → lines_of bytes ≡ given ++ line ∷ others
-    → reading_after (side_rows most given) (numbered_at side_line most (length given + 1, line)) ≡ Err why → first_bad_row most bytes ≡ Some (length given + 1, why)
-bad_row most bytes given line others why good parts bad =
-    let next : Reading = numbered_at side_line most (length given + 1, line) in
-    let later : List Reading = map (numbered_at side_line most) (enumerate_from (length given + 1 + 1) others) in
-    let before : List Reading = readings_in side_line most given in
-    let all : readings side_line most bytes ≡ before ++ next ∷ later = ap (readings_in side_line most) parts ∙ readings_append side_line most given line others in
-    let rest : List Reading = side_after (side_rows most given ++ option_to_list (item_of next)) later in
-    let is : side_readings most bytes ≡ side_after [] before ++ Err why ∷ rest =
-    readings_are most bytes ∙ ap (side_after []) all ∙ after_append [] before (next ∷ later)
-    ∙ ap (λ (r : Reading). side_after [] before ++ r ∷ rest) bad in
-    let place : 1 + length (side_after [] before) ≡ length given + 1 = omega (arith, length_after [] before, length_readings side_line most given) in
-    ap (λ (rs : List Reading). first_of (filter_map fault_of (enumerate_from 1 rs))) is ∙ faults_behind 1 (side_after [] before) rest why good ∙ ap (λ (k : ℕ). Some (k, why)) place
-
--- ---- one line more
-readings_more : (most : ℕ) (given : List (List ℕ)) (line : List ℕ) (found : Option SideValue) → length given < most → side_line (length given + 1) line ≡ Ok found
-    → readings_in side_line most (given ++ line ∷ []) ≡ readings_in side_line most given ++ Ok found ∷ []
-readings_more most given line found room read =
-    readings_append side_line most given line [] ∙ ap (λ (r : Reading). readings_in side_line most given ++ r ∷ []) (numbered_fits side_line most (length given) line room ∙ read)
-
-rows_more : (most : ℕ) (given : List (List ℕ)) (line : List ℕ) (found : Option SideValue) → length given < most → side_line (length given + 1) line ≡ Ok found
-    → side_rows most (given ++ line ∷ []) ≡ side_rows most given ++ option_to_list found
-rows_more most given line found room read =
-    ap (filter_map item_of) (readings_more most given line found room read) ∙ items_append (readings_in side_line most given) (Ok found ∷ [])
-    ∙ ap (λ (xs : List SideValue). side_rows most given ++ xs) (one_item (Ok found))
-
-good_more : (most : ℕ) (given : List (List ℕ)) (line : List ℕ) (found : Option SideValue) → length given < most → side_line (length given + 1) line ≡ Ok found
-    → list_all is_ok (side_after [] (readings_in side_line most given)) ≡ true → reading_after (side_rows most given) (Ok found) ≡ Ok found
-    → list_all is_ok (side_after [] (readings_in side_line most (given ++ line ∷ []))) ≡ true
-good_more most given line found room read good same =
-    ap (λ (rs : List Reading). list_all is_ok (side_after [] rs)) (readings_more most given line found room read)
-    ∙ ap (list_all is_ok) (after_append [] (readings_in side_line most given) (Ok found ∷ []))
-    ∙ ap (λ (r : Reading). list_all is_ok (side_after [] (readings_in side_line most given) ++ r ∷ [])) same
-    ∙ good_append (side_after [] (readings_in side_line most given)) found good
+-- good readings with one more
+good_append : (good : List Reading) (o : Option SideValue) → list_all is_ok good ≡ true → list_all is_ok (good ++ Ok o ∷ []) ≡ true
+good_append [] o ok = refl
+good_append (Ok p ∷ good) o ok = good_append good o ok
+good_append (Err f ∷ good) o ok = cc ok
 
 count_more : (key : List ℕ) (rows : List SideValue) (s : SideValue) → rows_with key (rows ++ s ∷ []) ≡ rows_with key rows + (if bytes_eq s.key key then 1 else 0)
 count_more key rows s = count_last (λ (r : SideValue). bytes_eq r.key key) rows s
 
--- a line without a row
-pub took_no_row : (n : ℕ) (line : List ℕ) (t : SideTally) → side_line n line ≡ Ok None → TakesSideLine n line t t
-took_no_row n line t read = λ most given h number small.
-    let room : length given < most = omega (arith, number, small) in
-    let at : side_line (length given + 1) line ≡ Ok None = subst (λ (k : ℕ). side_line k line ≡ Ok None) number read in
-    let same : side_rows most (given ++ line ∷ []) ≡ side_rows most given = rows_more most given line None room at ∙ append-nil (side_rows most given) in
-    record {
-      good = good_more most given line None room at h.good refl;
-      counts = λ key. h.counts key ∙ ap (rows_with key) (sym same);
-      rows = h.rows ∙ ap length (sym same);
-    }
+module _ (laws : SideLaws) where
+  -- ---- the first bad line
+  pub no_bad_row : (most : ℕ) (bytes : List ℕ) → list_all is_ok (side_after [] (readings_in side_line most (lines_of bytes))) ≡ true
+      → (first_bad_row most bytes ≡ None) × (rows_of most bytes ≡ side_rows most (lines_of bytes))
+  no_bad_row most bytes good =
+      let is : side_readings most bytes ≡ side_after [] (readings side_line most bytes) = readings_are most bytes in (
+        ap (λ (rs : List Reading). first_of (filter_map fault_of (enumerate_from 1 rs))) is ∙ ap first_of (laws.no_fault 1 (side_after [] (readings side_line most bytes)) good),
+        ap items_of is ∙ laws.good (side_after [] (readings side_line most bytes)) good ∙ same_items [] (readings side_line most bytes) good,
+      )
 
--- a line with a row that was counted
-took_row : (n : ℕ) (line : List ℕ) (row : SideValue) (old new : SideTally) → side_line n line ≡ Ok (Some row) → CountsRow row old new → TakesSideLine n line old new
-took_row n line row old new read c = λ most given h number small.
-    let room : length given < most = omega (arith, number, small) in
-    let at : side_line (length given + 1) line ≡ Ok (Some row) = subst (λ (k : ℕ). side_line k line ≡ Ok (Some row)) number read in
-    let more : side_rows most (given ++ line ∷ []) ≡ side_rows most given ++ row ∷ [] = rows_more most given line (Some row) room at in
-    let fits : rows_with row.key (side_rows most given) < most_rows = subst (λ (k : ℕ). k < most_rows) (h.counts row.key) c.room in
-    record {
-      good = good_more most given line (Some row) room at h.good (row_fits (side_rows most given) row fits);
-      counts = λ key. c.counts key ∙ ap (λ (k : ℕ). k + (if bytes_eq row.key key then 1 else 0)) (h.counts key) ∙ sym (count_more key (side_rows most given) row) ∙ ap (rows_with key) (sym more);
-      rows = c.rows ∙ ap (λ (k : ℕ). k + 1) h.rows ∙ sym (length-append (side_rows most given) (row ∷ [])) ∙ ap length (sym more);
-    }
+  pub bad_row : (most : ℕ) (bytes : List ℕ) (given : List (List ℕ)) (line : List ℕ) (others : List (List ℕ)) (why : LineFault)
+      → list_all is_ok (side_after [] (readings_in side_line most given)) ≡ true → lines_of bytes ≡ given ++ line ∷ others
+      → reading_after (side_rows most given) (numbered_at side_line most (length given + 1, line)) ≡ Err why → first_bad_row most bytes ≡ Some (length given + 1, why)
+  bad_row most bytes given line others why good parts bad =
+      let next : Reading = numbered_at side_line most (length given + 1, line) in
+      let later : List Reading = map (numbered_at side_line most) (enumerate_from (length given + 1 + 1) others) in
+      let before : List Reading = readings_in side_line most given in
+      let all : readings side_line most bytes ≡ before ++ next ∷ later = ap (readings_in side_line most) parts ∙ laws.apart most given line others in
+      let rest : List Reading = side_after (side_rows most given ++ option_to_list (item_of next)) later in
+      let is : side_readings most bytes ≡ side_after [] before ++ Err why ∷ rest =
+      readings_are most bytes ∙ ap (side_after []) all ∙ after_append [] before (next ∷ later)
+      ∙ ap (λ (r : Reading). side_after [] before ++ r ∷ rest) bad in
+      let place : 1 + length (side_after [] before) ≡ length given + 1 = omega (arith, length_after [] before, laws.count most given) in
+      ap (λ (rs : List Reading). first_of (filter_map fault_of (enumerate_from 1 rs))) is ∙ laws.first_fault 1 (side_after [] before) rest why good ∙ ap (λ (k : ℕ). Some (k, why)) place
+
+  -- ---- one line more
+  readings_more : (most : ℕ) (given : List (List ℕ)) (line : List ℕ) (found : Option SideValue) → length given < most → side_line (length given + 1) line ≡ Ok found
+      → readings_in side_line most (given ++ line ∷ []) ≡ readings_in side_line most given ++ Ok found ∷ []
+  readings_more most given line found room read =
+      laws.apart most given line [] ∙ ap (λ (r : Reading). readings_in side_line most given ++ r ∷ []) (laws.fits most (length given) line room ∙ read)
+
+  rows_more : (most : ℕ) (given : List (List ℕ)) (line : List ℕ) (found : Option SideValue) → length given < most → side_line (length given + 1) line ≡ Ok found
+      → side_rows most (given ++ line ∷ []) ≡ side_rows most given ++ option_to_list found
+  rows_more most given line found room read =
+      ap (filter_map item_of) (readings_more most given line found room read) ∙ items_append (readings_in side_line most given) (Ok found ∷ [])
+      ∙ ap (λ (xs : List SideValue). side_rows most given ++ xs) (one_item (Ok found))
+
+  good_more : (most : ℕ) (given : List (List ℕ)) (line : List ℕ) (found : Option SideValue) → length given < most → side_line (length given + 1) line ≡ Ok found
+      → list_all is_ok (side_after [] (readings_in side_line most given)) ≡ true → reading_after (side_rows most given) (Ok found) ≡ Ok found
+      → list_all is_ok (side_after [] (readings_in side_line most (given ++ line ∷ []))) ≡ true
+  good_more most given line found room read good same =
+      ap (λ (rs : List Reading). list_all is_ok (side_after [] rs)) (readings_more most given line found room read)
+      ∙ ap (list_all is_ok) (after_append [] (readings_in side_line most given) (Ok found ∷ []))
+      ∙ ap (λ (r : Reading). list_all is_ok (side_after [] (readings_in side_line most given) ++ r ∷ [])) same
+      ∙ good_append (side_after [] (readings_in side_line most given)) found good
+
+  -- a line without a row
+  pub took_no_row : (n : ℕ) (line : List ℕ) (t : SideTally) → side_line n line ≡ Ok None → TakesSideLine n line t t
+  took_no_row n line t read = λ most given h number small.
+      let room : length given < most = omega (arith, number, small) in
+      let at : side_line (length given + 1) line ≡ Ok None = subst (λ (k : ℕ). side_line k line ≡ Ok None) number read in
+      let same : side_rows most (given ++ line ∷ []) ≡ side_rows most given = rows_more most given line None room at ∙ append-nil (side_rows most given) in
+      record {
+        good = good_more most given line None room at h.good refl;
+        counts = λ key. h.counts key ∙ ap (rows_with key) (sym same);
+        rows = h.rows ∙ ap length (sym same);
+      }
+
+  -- a line with a row that was counted
+  took_row : (n : ℕ) (line : List ℕ) (row : SideValue) (old new : SideTally) → side_line n line ≡ Ok (Some row) → CountsRow row old new → TakesSideLine n line old new
+  took_row n line row old new read c = λ most given h number small.
+      let room : length given < most = omega (arith, number, small) in
+      let at : side_line (length given + 1) line ≡ Ok (Some row) = subst (λ (k : ℕ). side_line k line ≡ Ok (Some row)) number read in
+      let more : side_rows most (given ++ line ∷ []) ≡ side_rows most given ++ row ∷ [] = rows_more most given line (Some row) room at in
+      let fits : rows_with row.key (side_rows most given) < most_rows = subst (λ (k : ℕ). k < most_rows) (h.counts row.key) c.room in
+      record {
+        good = good_more most given line (Some row) room at h.good (row_fits (side_rows most given) row fits);
+        counts = λ key. c.counts key ∙ ap (λ (k : ℕ). k + (if bytes_eq row.key key then 1 else 0)) (h.counts key) ∙ sym (count_more key (side_rows most given) row) ∙ ap (rows_with key) (sym more);
+        rows = c.rows ∙ ap (λ (k : ℕ). k + 1) h.rows ∙ sym (length-append (side_rows most given) (row ∷ [])) ∙ ap length (sym more);
+      }
+
+  -- by the answer of counting the row
+  pub took_by : (n : ℕ) (line : List ℕ) (row : SideValue) (old new : SideTally) (r : Result (Unit {0}) (Refused LineFault)) → side_line n line ≡ Ok (Some row)
+      → OnOk r (CountsRow row old new) → OnOk r (TakesSideLine n line old new)
+  took_by n line row old new (Ok done) read c = took_row n line row old new read c
+  took_by n line row old new (Err e) read c = tt
 
 -- a line with a row whose key has no room
 refused_row : (n : ℕ) (line : List ℕ) (row : SideValue) (t : SideTally) (why : LineFault) (most : ℕ) (given : List (List ℕ)) → side_line n line ≡ Ok (Some row) → SideTallied most given t
     → why ≡ KeyFull → most_rows ≤ rows_at row.key t → reading_after (side_rows most given) (side_line n line) ≡ Err why
 refused_row n line row t why most given read h is full =
     ap (reading_after (side_rows most given)) read ∙ row_full (side_rows most given) row (subst (λ (k : ℕ). most_rows ≤ k) (h.counts row.key) full) ∙ ap Err (sym is)
-
--- by the answer of counting the row
-pub took_by : (n : ℕ) (line : List ℕ) (row : SideValue) (old new : SideTally) (r : Result (Unit {0}) (Refused LineFault)) → side_line n line ≡ Ok (Some row)
-    → OnOk r (CountsRow row old new) → OnOk r (TakesSideLine n line old new)
-took_by n line row old new (Ok done) read c = took_row n line row old new read c
-took_by n line row old new (Err e) read c = tt
 
 pub refused_by : (n : ℕ) (line : List ℕ) (row : SideValue) (old : SideTally) (r : Result (Unit {0}) (Refused LineFault)) → side_line n line ≡ Ok (Some row)
     → IfErr r (RefusesRow row old) → IfErr r (RefusesSideLine n line old)

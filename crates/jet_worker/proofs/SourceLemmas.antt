@@ -15,13 +15,11 @@ use Rattle.jet_lines.specs.Readings.{◌>>=◌, Fails, entry_at, event_in, event
 use Rattle.jet_lines.specs.declared.entry.Entry.{Entry}
 use Rattle.jet_lines.specs.declared.entry.Entry.TheVariants as entry
 use Rattle.jet_lines.specs.declared.fault.LineFault.{LineFault}
-use Rattle.jet_lines.proofs.EntryLemmas.{event_place}
-use Rattle.jet_lines.specs.declared.fault.LineFault.{LineFault}
 use Rattle.jet_worker.specs.CheckText.{behind_count}
+use Rattle.jet_worker.specs.inner.LineLaws.{EventLaws}
 use Rattle.jet_worker.specs.inner.Tallying.{CountsEntry, CountsEvent, RefusesSourceLine, TakesSourceLine, is_below}
 use Rattle.jet_worker.specs.declared.source_tally.SourceTally.{SourceTally}
 use Rattle.jet_worker.proofs.CountLemmas.{count_first, count_last}
-use Rattle.jet_worker.proofs.FileLemmas.{good_more, numbered_fits}
 
 -- ---- what a line holds
 
@@ -112,66 +110,66 @@ mark_is lag grain times m l g h = ap (λ (x : ℤ). mark_at x m.grain m.greatest
 later : (n m a : ℕ) → a < n → n ≤ m → a < m
 later n m a h k = omega arith
 
-goes_on : (most p : ℕ) (given : List (List ℕ)) (line : List ℕ) (found : Option EventValue) (n : ℕ) → are_good (event_line p) most given ≡ true → n ≡ length given + 1 → n ≤ most
-    → event_line p n line ≡ Ok found → GoOn (event_line p) most given line found
-goes_on most p given line found n good number small read =
-    let room : length given < most = omega (arith, number, small) in
-    let at : event_line p (length given + 1) line ≡ Ok found = subst (λ (k : ℕ). event_line p k line ≡ Ok found) number read in
-    good_more (event_line p) most given line found good (numbered_fits (event_line p) most (length given) line room ∙ at)
+module _ (laws : EventLaws) where
+  goes_on : (most p : ℕ) (given : List (List ℕ)) (line : List ℕ) (found : Option EventValue) (n : ℕ) → are_good (event_line p) most given ≡ true → n ≡ length given + 1 → n ≤ most
+      → event_line p n line ≡ Ok found → GoOn (event_line p) most given line found
+  goes_on most p given line found n good number small read =
+      let room : length given < most = omega (arith, number, small) in
+      laws.more p most given line found good room (subst (λ (k : ℕ). event_line p k line ≡ Ok found) number read)
 
--- a line without an event
-pub took_no_event : (n : ℕ) (line : List ℕ) (t : SourceTally) → event_line t.part n line ≡ Ok None → TakesSourceLine n line t t
-took_no_event n line t read = λ most p lag unit given h number small.
-    let read2 : event_line p n line ≡ Ok None = subst (λ (k : ℕ). event_line k n line ≡ Ok None) h.part read in
-    let more : GoOn (event_line p) most given line None = goes_on most p given line None n h.good number small read2 in
-    let same : events_in most p (given ++ line ∷ []) ≡ events_in most p given = more.1 ∙ append-nil (events_in most p given) in
-    let longer : length (given ++ line ∷ []) ≡ length given + 1 = length-append given (line ∷ []) in
-    record {
-      good = more.0;
-      part = h.part;
-      marker_lag = h.marker_lag;
-      marker_unit = h.marker_unit;
-      seen = subst (λ (es : List EventValue). HasSeen t.marker (map (λ e. e.ts) es)) (sym same) h.seen;
-      lines = subst (λ (es : List EventValue). All (λ (e : EventValue). e.line < length (given ++ line ∷ []) + 1) es) (sym same)
-          (All-weaker (λ (e : EventValue). e.line < length given + 1) (λ (e : EventValue). e.line < length (given ++ line ∷ []) + 1) (λ e lt. later (length given + 1) (length (given ++ line ∷ []) + 1) e.line lt (omega (arith, longer))) (events_in most p given) h.lines);
-      events = h.events ∙ ap length (sym same);
-      behind = h.behind ∙ ap (behind_count lag unit) (sym same);
-    }
+  -- a line without an event
+  pub took_no_event : (n : ℕ) (line : List ℕ) (t : SourceTally) → event_line t.part n line ≡ Ok None → TakesSourceLine n line t t
+  took_no_event n line t read = λ most p lag unit given h number small.
+      let read2 : event_line p n line ≡ Ok None = subst (λ (k : ℕ). event_line k n line ≡ Ok None) h.part read in
+      let more : GoOn (event_line p) most given line None = goes_on most p given line None n h.good number small read2 in
+      let same : events_in most p (given ++ line ∷ []) ≡ events_in most p given = more.1 ∙ append-nil (events_in most p given) in
+      let longer : length (given ++ line ∷ []) ≡ length given + 1 = length-append given (line ∷ []) in
+      record {
+        good = more.0;
+        part = h.part;
+        marker_lag = h.marker_lag;
+        marker_unit = h.marker_unit;
+        seen = subst (λ (es : List EventValue). HasSeen t.marker (map (λ e. e.ts) es)) (sym same) h.seen;
+        lines = subst (λ (es : List EventValue). All (λ (e : EventValue). e.line < length (given ++ line ∷ []) + 1) es) (sym same)
+            (All-weaker (λ (e : EventValue). e.line < length given + 1) (λ (e : EventValue). e.line < length (given ++ line ∷ []) + 1) (λ e lt. later (length given + 1) (length (given ++ line ∷ []) + 1) e.line lt (omega (arith, longer))) (events_in most p given) h.lines);
+        events = h.events ∙ ap length (sym same);
+        behind = h.behind ∙ ap (behind_count lag unit) (sym same);
+      }
 
--- a line with an event that was counted
-pub took_event : (n : ℕ) (line : List ℕ) (e : EventValue) (old new : SourceTally) → event_line old.part n line ≡ Ok (Some e) → CountsEvent e old new → TakesSourceLine n line old new
-took_event n line e old new read c = λ most p lag unit given h number small.
-    let read2 : event_line p n line ≡ Ok (Some e) = subst (λ (k : ℕ). event_line k n line ≡ Ok (Some e)) h.part read in
-    let more : GoOn (event_line p) most given line (Some e) = goes_on most p given line (Some e) n h.good number small read2 in
-    let events : List EventValue = events_in most p given in
-    let at : e.line ≡ n = (event_place p n line e read2).1 in
-    let before : AreBefore e.line events = subst (λ (k : ℕ). AreBefore k events) (sym (at ∙ number)) h.lines in
-    let longer : length (given ++ line ∷ []) ≡ length given + 1 = length-append given (line ∷ []) in
-    let mark : mark_at old.marker.lag old.marker.grain old.marker.greatest ≡ mark_of lag unit (map (λ (x : EventValue). x.ts) events) =
-    mark_is lag unit (map (λ (x : EventValue). x.ts) events) old.marker h.marker_lag h.marker_unit h.seen in
-    let lines : All (λ (x : EventValue). x.line < length (given ++ line ∷ []) + 1) (events ++ e ∷ []) =
-    All-append (λ (x : EventValue). x.line < length (given ++ line ∷ []) + 1) events (e ∷ [])
-    (All-weaker (λ (x : EventValue). x.line < length given + 1) (λ (x : EventValue). x.line < length (given ++ line ∷ []) + 1) (λ x lt. later (length given + 1) (length (given ++ line ∷ []) + 1) x.line lt (omega (arith, longer))) events h.lines)
-    (All-cons (λ (x : EventValue). x.line < length (given ++ line ∷ []) + 1) e [] (omega (arith, at, number, longer)) (All-nil (λ (x : EventValue). x.line < length (given ++ line ∷ []) + 1))) in
-    record {
-      good = more.0;
-      part = c.part ∙ h.part;
-      marker_lag = c.lag ∙ h.marker_lag;
-      marker_unit = c.unit ∙ h.marker_unit;
-      seen = subst (λ (ts : List ℤ). HasSeen new.marker ts) (sym (map-append (λ (x : EventValue). x.ts) events (e ∷ [])) ∙ ap (map (λ (x : EventValue). x.ts)) (sym more.1)) (c.seen (map (λ (x : EventValue). x.ts) events) h.seen);
-      lines = subst (λ (es : List EventValue). All (λ (x : EventValue). x.line < length (given ++ line ∷ []) + 1) es) (sym more.1) lines;
-      events = c.events ∙ ap (λ (k : ℕ). k + 1) h.events ∙ sym (length-append events (e ∷ [])) ∙ ap length (sym more.1);
-      behind = c.behind ∙ one_more old.behind (is_below (mark_at old.marker.lag old.marker.grain old.marker.greatest) e.ts)
-          ∙ ap (λ (m : Option ℤ). old.behind + cond (is_below m e.ts) 1 0) mark
-          ∙ ap (λ (k : ℕ). k + cond (is_below (mark_of lag unit (map (λ (x : EventValue). x.ts) events)) e.ts) 1 0) h.behind
-          ∙ sym (count_more lag unit events e before)
-          ∙ ap (behind_count lag unit) (sym more.1);
-    }
+  -- a line with an event that was counted
+  pub took_event : (n : ℕ) (line : List ℕ) (e : EventValue) (old new : SourceTally) → event_line old.part n line ≡ Ok (Some e) → CountsEvent e old new → TakesSourceLine n line old new
+  took_event n line e old new read c = λ most p lag unit given h number small.
+      let read2 : event_line p n line ≡ Ok (Some e) = subst (λ (k : ℕ). event_line k n line ≡ Ok (Some e)) h.part read in
+      let more : GoOn (event_line p) most given line (Some e) = goes_on most p given line (Some e) n h.good number small read2 in
+      let events : List EventValue = events_in most p given in
+      let at : e.line ≡ n = laws.line p n line e read2 in
+      let before : AreBefore e.line events = subst (λ (k : ℕ). AreBefore k events) (sym (at ∙ number)) h.lines in
+      let longer : length (given ++ line ∷ []) ≡ length given + 1 = length-append given (line ∷ []) in
+      let mark : mark_at old.marker.lag old.marker.grain old.marker.greatest ≡ mark_of lag unit (map (λ (x : EventValue). x.ts) events) =
+      mark_is lag unit (map (λ (x : EventValue). x.ts) events) old.marker h.marker_lag h.marker_unit h.seen in
+      let lines : All (λ (x : EventValue). x.line < length (given ++ line ∷ []) + 1) (events ++ e ∷ []) =
+      All-append (λ (x : EventValue). x.line < length (given ++ line ∷ []) + 1) events (e ∷ [])
+      (All-weaker (λ (x : EventValue). x.line < length given + 1) (λ (x : EventValue). x.line < length (given ++ line ∷ []) + 1) (λ x lt. later (length given + 1) (length (given ++ line ∷ []) + 1) x.line lt (omega (arith, longer))) events h.lines)
+      (All-cons (λ (x : EventValue). x.line < length (given ++ line ∷ []) + 1) e [] (omega (arith, at, number, longer)) (All-nil (λ (x : EventValue). x.line < length (given ++ line ∷ []) + 1))) in
+      record {
+        good = more.0;
+        part = c.part ∙ h.part;
+        marker_lag = c.lag ∙ h.marker_lag;
+        marker_unit = c.unit ∙ h.marker_unit;
+        seen = subst (λ (ts : List ℤ). HasSeen new.marker ts) (sym (map-append (λ (x : EventValue). x.ts) events (e ∷ [])) ∙ ap (map (λ (x : EventValue). x.ts)) (sym more.1)) (c.seen (map (λ (x : EventValue). x.ts) events) h.seen);
+        lines = subst (λ (es : List EventValue). All (λ (x : EventValue). x.line < length (given ++ line ∷ []) + 1) es) (sym more.1) lines;
+        events = c.events ∙ ap (λ (k : ℕ). k + 1) h.events ∙ sym (length-append events (e ∷ [])) ∙ ap length (sym more.1);
+        behind = c.behind ∙ one_more old.behind (is_below (mark_at old.marker.lag old.marker.grain old.marker.greatest) e.ts)
+            ∙ ap (λ (m : Option ℤ). old.behind + cond (is_below m e.ts) 1 0) mark
+            ∙ ap (λ (k : ℕ). k + cond (is_below (mark_of lag unit (map (λ (x : EventValue). x.ts) events)) e.ts) 1 0) h.behind
+            ∙ sym (count_more lag unit events e before)
+            ∙ ap (behind_count lag unit) (sym more.1);
+      }
 
--- a line whose entry was counted
-pub took_entry : (n : ℕ) (line : List ℕ) (x : Entry) (old new : SourceTally) → entry_at old.part n line ≡ Ok x → CountsEntry x old new → TakesSourceLine n line old new
-took_entry n line entry.Nothing old new read is =
-    subst (λ (t : SourceTally). TakesSourceLine n line old t) (sym is) (took_no_event n line old (entry_gives old.part n line entry.Nothing read))
-took_entry n line (entry.Event e) old new read c = took_event n line e old new (entry_gives old.part n line (entry.Event e) read) c
-took_entry n line entry.Idle old new read is =
-    subst (λ (t : SourceTally). TakesSourceLine n line old t) (sym is) (took_no_event n line old (entry_gives old.part n line entry.Idle read))
+  -- a line whose entry was counted
+  pub took_entry : (n : ℕ) (line : List ℕ) (x : Entry) (old new : SourceTally) → entry_at old.part n line ≡ Ok x → CountsEntry x old new → TakesSourceLine n line old new
+  took_entry n line entry.Nothing old new read is =
+      subst (λ (t : SourceTally). TakesSourceLine n line old t) (sym is) (took_no_event n line old (entry_gives old.part n line entry.Nothing read))
+  took_entry n line (entry.Event e) old new read c = took_event n line e old new (entry_gives old.part n line (entry.Event e) read) c
+  took_entry n line entry.Idle old new read is =
+      subst (λ (t : SourceTally). TakesSourceLine n line old t) (sym is) (took_no_event n line old (entry_gives old.part n line entry.Idle read))

@@ -1,6 +1,7 @@
 -- Stops of a check among its files.
 use Rattle.std.proofs.Common.{◌≡◌, ℕ, ◌+◌, List, [], ◌∷◌, ◌++◌, map, length, take, Some, None, All, refl, sym, ap, ◌∙◌, subst, arith, inl, inr, append-nil, append_assoc, length-append, length-take-le}
-use Rattle.std.specs.Prelude.{◌⊎◌, IsSome, flat_map, slice_get}
+use Rattle.std.specs.Prelude.{◌⊎◌, IsSome, flat_map, slice_get, sum}
+use Rattle.std.specs.List.{AllZip}
 use Rattle.std.proofs.lemmas.List.{length-map, map-append}
 use Rattle.std.proofs.lemmas.List.FromFn.{length-enumerate_from}
 use Rattle.std.proofs.lemmas.Option.{slice_get_within}
@@ -11,7 +12,7 @@ use Rattle.jet_file.specs.declared.outside.Out.TheVariants as out
 use Rattle.jet_flow.specs.DataFiles.{DataFile, file_name}
 use Rattle.jet_worker.specs.Calls.{Calling, EndsFailed, ReadsInOrder, Turn, opened_by, opening_call, part_place, turn_calls}
 use Rattle.jet_worker.specs.CheckText.{Checks, check_line, first_bad}
-use Rattle.jet_worker.specs.Checked.{CheckStops, IsBadLine, IsBegun, IsGood, WhyStopped, check_lines, content_of, names_of, numbered}
+use Rattle.jet_worker.specs.Checked.{BeginsTurn, CheckStops, HaveTurns, IsBadLine, IsBegun, IsGood, WhyStopped, check_lines, content_of, names_of, numbered}
 use Rattle.jet_worker.specs.inner.FileChecks.{IsFrontOf, StopsChecking}
 use Rattle.jet_worker.specs.inner.Opening.{IsUnread, Opened, StopsOpening, opening_of, pair_of}
 use Rattle.jet_worker.specs.Stopping.{IsCallIn, IsNoBadLine, LastIs}
@@ -20,8 +21,8 @@ use Rattle.jet_worker.specs.declared.stop.Spot.{Spot}
 use Rattle.jet_worker.specs.declared.stop.Spot.TheVariants.{Part}
 use Rattle.jet_worker.specs.declared.stop.Stop.{Stop}
 use Rattle.jet_worker.specs.declared.stop.Stop.TheVariants.{BadLine, Outside, NoMemory}
-use Rattle.jet_worker.proofs.CallLemmas.{ends_last, none_last, opened_by_both, turns_more}
-use Rattle.jet_worker.proofs.DoneLemmas.{HasDone, files_more, good_if, lines_more, rest_is}
+use Rattle.jet_worker.proofs.CallLemmas.{HasPieces, ends_last, none_last, opened_by_both, turns_more}
+use Rattle.jet_worker.proofs.DoneLemmas.{HasDone, TakesTurn, files_more, good_if, lines_more, rest_is}
 use Rattle.jet_worker.proofs.OrderLemmas.{at_seam, call_named, no_calls, none_in, opening_named, opening_order, turns_order}
 
 -- the file stands behind these among all
@@ -62,7 +63,8 @@ nothing_begun c a = record {
 
 -- nothing was done
 pub nothing_done : (c : Checks) (a : Told) → Calling (CheckStops c NoMemory) a a
-nothing_done c a = record { calls = []; trace = sym (append-nil a.trace); did = record { order = no_calls (names_of c); why = nothing_begun c a } }
+unfolding no_calls
+nothing_done c a = record { calls = []; trace = sym (append-nil a.trace); did = record { order = no_calls (names_of c); turns = tt; why = nothing_begun c a } }
 
 opening_why : (c : Checks) (stop : Stop) (a b : Told) → IsNoBadLine stop → (h : StopsOpening c stop a b) → WhyStopped c stop (map opening_call (map opening_of h.opened) ++ h.last) [] a b
 opening_why c (BadLine part line why) a b never h = absurd never
@@ -82,10 +84,19 @@ unfolding opening_order
 opening_stops c stop a b never h = record {
   calls = map opening_call (map opening_of h.opened) ++ h.last;
   trace = h.trace ∙ append_assoc a.trace (map opening_call (map opening_of h.opened)) h.last;
-  did = record { order = opening_order c h.opened stop h.last h.pairs h.fails; why = opening_why c stop a b never h };
+  did = record { order = opening_order c h.opened stop h.last h.pairs h.fails; turns = tt; why = opening_why c stop a b never h };
 }
 
 -- ---- in a file
+
+-- whole turns, and then one that was begun
+turns_then : (c : Checks) (told : Told) (files : List (ℕ × DataFile)) (p : ℕ × DataFile) (later : List (ℕ × DataFile)) (turns : List Turn) (t : Turn) → AllZip (TakesTurn c told) files turns → BeginsTurn (content_of told p.1) t
+    → HaveTurns c told (files ++ p ∷ later) (turns ++ t ∷ [])
+turns_then c told [] p later [] t h begins = begins
+turns_then c told [] p later (u ∷ turns) t h begins = absurd h
+turns_then c told (q ∷ files) p later [] t h begins = absurd h
+turns_then c told (q ∷ files) p later (u ∷ []) t h begins = (h.0, turns_then c told files p later [] t h.1 begins)
+turns_then c told (q ∷ files) p later (u ∷ v ∷ turns) t h begins = (h.0, turns_then c told files p later (v ∷ turns) t h.1 begins)
 
 module _ (c : Checks) (done later : List Opened) (o : Opened) (stop : Stop) (a b d : Told) (at : IsAt c done later o) (h : HasDone c done (o ∷ later) a b) (s : StopsChecking c (pair_of o) o.at stop b d) where
   unread : IsUnread b o
@@ -170,9 +181,24 @@ module _ (c : Checks) (done later : List Opened) (o : Opened) (stop : Stop) (a b
       ∙ ap (map (λ o. o.1)) (map-append opening_of (done ++ o ∷ []) later) ∙ map-append (λ (x : List ℕ × ℕ). x.1) (map opening_of (done ++ o ∷ [])) (map opening_of later)
       ∙ ap (λ (l : List ℕ). l ++ map (λ o. o.1) (map opening_of later)) (sym (files_more done o h.turns turn h.files refl))
 
+  pieces : All HasPieces turns
+  unfolding turns turn
+  pieces = All-append HasPieces h.turns (turn ∷ []) h.pieces (All-cons HasPieces turn [] s.pieces (All-nil HasPieces))
+
+  -- the turns before were whole, and this one was begun
+  have_turns : HaveTurns c a (numbered c) turns
+  unfolding turns turn
+  have_turns =
+      subst (λ (ps : List (ℕ × DataFile)). HaveTurns c a ps (h.turns ++ turn ∷ [])) (sym (map-append pair_of done (o ∷ later)) ∙ at.all)
+      (turns_then c a (map pair_of done) (pair_of o) (map pair_of later) h.turns turn h.each (begins s.order))
+    where
+      begins : (s.lengths ≡ []) ⊎ (sum s.counts ≡ length (rest_of b o.at)) → BeginsTurn (content_of a o.file) turn
+      begins (inl none) = inl none
+      begins (inr all) = inr (all ∙ ap length left)
+
   order : ReadsInOrder (names_of c) (before ++ s.last)
   unfolding before
-  order = turns_order c (done ++ o ∷ later) turns (map (λ o. o.1) (map opening_of later)) s.last at.all waits
+  order = turns_order c (done ++ o ∷ later) turns (map (λ o. o.1) (map opening_of later)) s.last at.all waits pieces
       (none_last (IsCallIn (Part o.part) o.at) stop s.last (none_in (Part o.part) o.at) s.fails) (ends_last (IsCallIn (Part o.part) o.at) stop s.last s.fails)
 
   -- so many files are before it
@@ -214,6 +240,12 @@ module _ (c : Checks) (done later : List Opened) (o : Opened) (stop : Stop) (a b
     kept = s.content ∙ h.content;
   }
 
+-- the turns of the order are these
+order_turns : (c : Checks) (done later : List Opened) (o : Opened) (stop : Stop) (a b d : Told) (at : IsAt c done later o) (h : HasDone c done (o ∷ later) a b) (s : StopsChecking c (pair_of o) o.at stop b d)
+    → HaveTurns c a (numbered c) (order c done later o stop a b d at h s).turns
+unfolding order turns_order before
+order_turns c done later o stop a b d at h s = have_turns c done later o stop a b d at h s
+
 no_front : (stop : Stop) (front : List ℕ) (F : Type 0) → (IsNoBadLine stop → ⊥) → (front ≡ []) ⊎ (IsNoBadLine stop × F) → front ≡ []
 no_front stop front F never (inl none) = none
 no_front stop front F never (inr some) = absurd (never some.0)
@@ -235,5 +267,5 @@ unfolding order turns_order before
 file_stops c done later o stop a b d at h s = record {
   calls = before c done later o stop a b d at h s ++ s.last;
   trace = trace c done later o stop a b d at h s;
-  did = record { order = order c done later o stop a b d at h s; why = file_why c done later o stop a b d at h s };
+  did = record { order = order c done later o stop a b d at h s; turns = order_turns c done later o stop a b d at h s; why = file_why c done later o stop a b d at h s };
 }

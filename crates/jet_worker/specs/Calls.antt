@@ -1,5 +1,5 @@
 -- The calls that a run makes on the outside, in their order. The number of a file is that of its opening among them.
-use Rattle.std.specs.Prelude.{◌≡◌, ◌⊎◌, ⊤, ℕ, List, [], ◌∷◌, ◌++◌, length, map, flat_map, slice_get, All, Option, Some, None, IsSomeAnd}
+use Rattle.std.specs.Prelude.{◌≡◌, ◌≤◌, ◌⊎◌, ⊤, ℕ, List, [], ◌∷◌, ◌++◌, length, map, flat_map, slice_get, All, Option, Some, None, IsSomeAnd}
 use Rattle.jet_file.specs.Outside.{Told, CallMade, Opened, Read, Wrote, Missed, Tried, Opening, Reading, Writing}
 use Rattle.jet_file.specs.declared.outside.Out.TheVariants as out
 use Rattle.jet_worker.specs.declared.stop.Call.{Call}
@@ -21,20 +21,31 @@ opened_by (Read file n ∷ calls) = opened_by calls
 opened_by (Wrote to n ∷ calls) = opened_by calls
 opened_by (Missed tried ∷ calls) = opened_by calls
 
--- the call opens no file, nor tries to
-abbrev pub IsNoOpening : CallMade → Type 0
-IsNoOpening (Opened name file) = ⊥
-IsNoOpening (Missed (Opening name)) = ⊥
-IsNoOpening call = ⊤
+-- the most bytes of a piece of a file
+abbrev pub most_piece : ℕ
+most_piece = 4096
+
+-- the call reads a piece, or writes, or failed to
+abbrev pub ReadsOrWrites : CallMade → Type 0
+ReadsOrWrites (Opened name file) = ⊥
+ReadsOrWrites (Read file n) = n ≤ most_piece
+ReadsOrWrites (Wrote to n) = ⊤
+ReadsOrWrites (Missed (Opening name)) = ⊥
+ReadsOrWrites (Missed (Reading file)) = ⊤
+ReadsOrWrites (Missed (Writing to)) = ⊤
 
 -- Files of these names are opened in this order, and no other call is made before all are open. From then on no file is
--- opened. The calls may end early, also with an opening that failed.
+-- opened, and files are read piece by piece. The calls may end early, also with an opening that failed.
 abbrev pub OpensInOrder : List (List ℕ) → List CallMade → Type 0
-OpensInOrder [] calls = All IsNoOpening calls
+OpensInOrder [] calls = All ReadsOrWrites calls
 OpensInOrder (name ∷ names) [] = ⊤
 OpensInOrder (name ∷ names) (Opened other file ∷ calls) = (other ≡ name) × OpensInOrder names calls
 OpensInOrder (name ∷ names) (Missed (Opening other) ∷ calls) = (other ≡ name) × (calls ≡ [])
 OpensInOrder (name ∷ names) (call ∷ calls) = ⊥
+
+-- each of these counts is that of a piece
+abbrev pub ArePieces : List ℕ → Type 0
+ArePieces counts = All (λ n. n ≤ most_piece) counts
 
 -- the turn of an opened file: reads of these counts of it, and then writes of these lengths to Rows
 pub record Turn : Type 0 where

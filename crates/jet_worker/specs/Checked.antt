@@ -1,6 +1,6 @@
 -- What the answers of a check of a job's files say.
-use Rattle.std.specs.Prelude.{◌≡◌, ◌⊎◌, ℕ, ◌+◌, Bool, true, false, pos, List, [], ◌++◌, length, map, take, flat_map, slice_get, All, Any, Option, Some, None, IsSome, IsSomeAnd, ⊤}
-use Rattle.std.specs.List.{enumerate_from}
+use Rattle.std.specs.Prelude.{◌≡◌, ◌⊎◌, ℕ, ◌+◌, Bool, true, false, pos, List, [], ◌∷◌, ◌++◌, length, map, sum, take, flat_map, slice_get, All, Any, Option, Some, None, IsSome, IsSomeAnd, ⊤}
+use Rattle.std.specs.List.{AllZip, enumerate_from}
 use Rattle.std.specs.Option.{unwrap_or}
 use Rattle.jet_lines.specs.declared.fault.LineFault.{LineFault}
 use Rattle.jet_file.specs.Outside.{Told, CallMade}
@@ -52,9 +52,26 @@ pub record IsRead (before now : ℕ → Bool) (calls : List CallMade) (old new :
   pub opened : now at ≡ true
   pub place : IsSomeAnd (old.content (file_name p.1)) (λ content. new.place at ≡ record { name = file_name p.1; taken = length content })
 
+-- the whole turn of a file with these bytes: its reads come to their number, and its writes to the length of its line
+pub record IsTurnOf (c : Checks) (p : ℕ × DataFile) (bytes : List ℕ) (t : Turn) : Type 0 where
+  pub reads : sum t.counts ≡ length bytes
+  pub writes : sum t.lengths ≡ length (check_line c p bytes)
+
+-- the turn of a file with these bytes so far: nothing is written before all are read
+abbrev pub BeginsTurn : List ℕ → Turn → Type 0
+BeginsTurn bytes t = (t.lengths ≡ []) ⊎ (sum t.counts ≡ length bytes)
+
+-- these turns are those of the first of these files, each whole before the next begins
+abbrev pub HaveTurns : Checks → Told → List (ℕ × DataFile) → List Turn → Type 0
+HaveTurns c told files [] = ⊤
+HaveTurns c told [] (t ∷ turns) = ⊥
+HaveTurns c told (p ∷ files) (t ∷ []) = BeginsTurn (content_of told p.1) t
+HaveTurns c told (p ∷ files) (t ∷ next ∷ turns) = IsTurnOf c p (content_of told p.1) t × HaveTurns c told files (next ∷ turns)
+
 -- all files were read and are good, and the whole check text was written, and no other byte
 pub record IsChecked (c : Checks) (before now : ℕ → Bool) (calls : List CallMade) (old new : Told) : Type 0 where
   pub order : ReadsInOrder (names_of c) calls
+  pub turns : AllZip (λ p t. IsTurnOf c p (content_of old p.1) t) (numbered c) order.turns
   pub good : All (IsGood c old) (numbered c)
   pub read : All (IsRead before now calls old new) (numbered c)
   pub rows : new.written out.Rows ≡ old.written out.Rows ++ check_lines c old (numbered c)
@@ -95,9 +112,10 @@ WhyStopped c (BadLine part line why) calls turns old new = (length turns ≡ par
 WhyStopped c (Outside call spot) calls turns old new = EndsFailed part_place call spot calls × IsBegun c old new
 WhyStopped c NoMemory calls turns old new = IsBegun c old new
 
--- a check stops, and its calls were in order
+-- a check stops, and its calls were in order; each file's line was written before the next file was read
 pub record CheckStops (c : Checks) (stop : Stop) (calls : List CallMade) (old new : Told) : Type 0 where
   pub order : ReadsInOrder (names_of c) calls
+  pub turns : HaveTurns c old (numbered c) order.turns
   pub why : WhyStopped c stop calls order.turns old new
 
 -- some file is not there, where that is told

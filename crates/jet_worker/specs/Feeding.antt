@@ -5,6 +5,7 @@ use Rattle.jet_file.specs.Writing.{HasWritten}
 use Rattle.jet_file.specs.declared.outside.Out.{Out}
 use Rattle.jet_file.specs.declared.outside.Out.TheVariants.{Rows, Notes}
 use Rattle.jet_lines.specs.LinesValue.{LinesValue}
+use Rattle.jet_worker.specs.Calls.{ArePieces, most_piece}
 use Rattle.jet_worker.specs.inner.Stopped.{spot_of}
 use Rattle.jet_worker.specs.Stopping.{IsCallIn, IsWriting, LastIs, LastOf}
 use Rattle.jet_worker.specs.declared.stop.Call.{Call}
@@ -74,10 +75,6 @@ abbrev pub Flushes : {T : Type 0} → List ℕ → List ℕ → Result T Stop �
 Flushes rows notes (Ok done) old new = Appends rows notes old new
 Flushes rows notes (Err stop) old new = StopsAppending rows notes stop old new
 
--- the most bytes of a piece
-abbrev pub most_piece : ℕ
-most_piece = 4096
-
 -- the next bytes of the file were put to its lines, or none were left
 pub record TakesPiece (file : ℕ) (before after : LinesValue) (old new : Told) : Type 0 where
   pub piece : List ℕ
@@ -101,6 +98,7 @@ pub record StopsReads (spot : Spot) (file : ℕ) (stop : Stop) (old new : Told) 
   pub content : new.content ≡ old.content
   pub written : new.written ≡ old.written
   pub counts : List ℕ
+  pub pieces : ArePieces counts
   pub last : List CallMade
   pub fails : LastIs (IsCallIn spot file) stop last
   pub trace : new.trace ≡ old.trace ++ map (Read file) counts ++ last

@@ -14,6 +14,7 @@ ghost use Rattle.jet_worker.specs.Stopping.{IsForOutside, OpenOutcome, Outcome};
 use crate::Stop;
 use crate::feed::write_text;
 use crate::files::{DataFile, data_files};
+use crate::laws::laws_of_lines;
 use crate::open::{OpenFile, open_all};
 use crate::read::tally_lines;
 use crate::tally::Tally;
@@ -36,7 +37,8 @@ pub(crate) struct Limits {
 /// the watermark of those before it in the file. The line of a side file is `side,NUMBER,LINES,ROWS`.
 ///
 /// It stops at the first bad line, at the first call on the outside that fails, and where no memory is found: then
-/// Rows holds the lines of the good files before, or a front of these lines.
+/// Rows holds the lines of the good files before, or a front of these lines. The line of a file is written before the
+/// next file is read.
 pub fn check_files<O: Outside>(alloc: Global, plan: &Plan, out: &mut O) -> Result<(), Stop>
     ensures done { OnOk result ((c : Checks) → IsCheckOf plan.now.dag plan.now.settings c
         → WhereTold (Calling (IsChecked c (O.opened out.old) (O.opened out.new))) (O.told out.old) (O.told out.new)) }
@@ -107,6 +109,7 @@ fn check_file<O: Outside>(
         → WhereTold (ChecksFile c (file.now.part, file_in file.now.file) file.now.at result) (O.told out.old) (O.told out.new) }
     ensures outcome { Outcome O.opened O.steady O.faults out.old out.new result }
 {
+    laws_of_lines();
     let mut tally = Tally::new(alloc, file.part, &file.file, limits.unit);
     let lines = tally_lines(alloc, file.part, file.at, limits.most, &mut tally, out)?;
     match tally.text(alloc, file.part, lines) {

@@ -8,6 +8,7 @@
 mod check;
 mod feed;
 mod files;
+mod laws;
 mod open;
 mod read;
 mod side_tally;

@@ -9,6 +9,7 @@ ghost use Rattle.jet_worker.specs.Stopping.{Outcome};
 ghost use Rattle.jet_worker.specs.inner.Tallying.{IsSmall, RefusesLine, StopsAtLine, TakesLine, Tallied};
 
 use crate::feed::read_piece;
+use crate::laws::laws_of_lines;
 use crate::tally::Tally;
 use crate::{Spot, Stop};
 use jet_file::{FileNo, Outside};
@@ -33,6 +34,7 @@ pub(crate) fn tally_lines<O: Outside>(
         → WhereTold (TalliesFile c (part, f) file tally.new result) (O.told out.old) (O.told out.new) }
     ensures outcome { Outcome O.opened O.steady O.faults out.old out.new result }
 {
+    laws_of_lines();
     let mut lines = Lines::new(alloc, most);
     let mut count = 0;
     'cuts: loop {

@@ -3,6 +3,7 @@ ghost use Rattle.std.specs.Prelude.{◌≡◌, ◌≤◌, ◌<◌, ◌^◌, ◌+
 ghost use Rattle.jet_items.specs.LineText.{line_text};
 ghost use Rattle.jet_worker.specs.inner.Tallying.{CountsRow, RefusesRow, RefusesSideLine, SideTallied, TakesSideLine, rows_at};
 
+use crate::laws::laws_of_lines;
 use jet_items::{Key, Refused, Side};
 use jet_lines::{LineFault, read_side};
 use std::alloc::{AllocError, Global};
@@ -42,6 +43,7 @@ impl SideTally {
         ensures small { OnOk result (self.new.rows ≤ number) }
         ensures refused { IfErr result (RefusesSideLine number line.now self.old) }
     {
+        laws_of_lines();
         match read_side(alloc, line, number) {
             Ok(Some(row)) => self.count(&row),
             Ok(None) => Ok(()),

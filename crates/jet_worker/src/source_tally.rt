@@ -5,6 +5,7 @@ ghost use Rattle.jet_items.specs.Ranges.{IsWithin, most_time};
 ghost use Rattle.jet_items.specs.Values.{EventValue};
 ghost use Rattle.jet_worker.specs.inner.Tallying.{CountsEntry, CountsEvent, RefusesSourceLine, SourceTallied, TakesSourceLine};
 
+use crate::laws::laws_of_lines;
 use jet_items::{Event, Refused};
 use jet_lines::{Entry, LineFault, read_line};
 use jet_policy::Marker;
@@ -48,6 +49,7 @@ impl SourceTally {
         ensures small { OnOk result ((self.new.events ≤ number) × (self.new.behind ≤ number)) }
         ensures refused { IfErr result (RefusesSourceLine number line.now self.old) }
     {
+        laws_of_lines();
         match read_line(alloc, line, self.part, number) {
             Ok(entry) => {
                 self.enter(&entry);
@@ -75,7 +77,7 @@ impl SourceTally {
         ensures counts { CountsEvent event.now self.old self.new }
         ensures behind { self.new.behind ≤ self.old.behind + 1 }
     {
-        if self.marker.mark().is_some_and(|mark| event.ts < mark.t) {
+        if self.marker.is_behind(event.ts) {
             self.behind += 1;
         }
         let _mark = self.marker.see(event.ts);

@@ -7,6 +7,7 @@ ghost use Rattle.jet_worker.specs.inner.Opening.{HasLag, file_in};
 ghost use Rattle.jet_worker.specs.inner.Tallying.{IsSmall, RefusesLine, TakesLine, Tallied};
 
 use crate::files::DataFile;
+use crate::laws::laws_of_lines;
 use crate::side_tally::SideTally;
 use crate::source_tally::SourceTally;
 use jet_items::Refused;
@@ -49,7 +50,10 @@ impl Tally {
     {
         match self {
             Tally::Source(tally) => tally.take(alloc, number, line),
-            Tally::Side(tally) => tally.take(alloc, number, line),
+            Tally::Side(tally) => {
+                laws_of_lines();
+                tally.take(alloc, number, line)
+            }
         }
     }
 
@@ -60,7 +64,10 @@ impl Tally {
     {
         match self {
             Tally::Source(tally) => tally.text(alloc, lines),
-            Tally::Side(tally) => tally.text(alloc, part, lines),
+            Tally::Side(tally) => {
+                laws_of_lines();
+                tally.text(alloc, part, lines)
+            }
         }
     }
 }

@@ -10,7 +10,7 @@ use Rattle.jet_file.specs.Outside.{Told, CallMade, WhereTold, rest_of}
 use Rattle.jet_file.specs.Text.{row_line, late_line}
 use Rattle.jet_file.specs.declared.outside.Out.TheVariants.{Rows, Notes}
 use Rattle.jet_cli.specs.Counting.{Counts, late_among, mark_after}
-use Rattle.jet_worker.specs.Calls.{IsNoOpening}
+use Rattle.jet_worker.specs.Calls.{ReadsOrWrites}
 use Rattle.jet_worker.specs.Feeding.{Appends}
 use Rattle.jet_cli.specs.Pacing.{HasPaced}
 use Rattle.jet_cli.specs.inner.Took.{ClosesOn, Prints, late_text_of}
@@ -27,7 +27,7 @@ pub record HasRun (file : ℕ) (bytes : List ℕ) (ended : Bool) (rows notes : L
   pub rows_written : now.written Rows ≡ old.written Rows ++ rows
   pub notes_written : now.written Notes ≡ old.written Notes ++ notes
   pub calls : List CallMade
-  pub quiet : All IsNoOpening calls
+  pub quiet : All ReadsOrWrites calls
   pub trace : now.trace ≡ old.trace ++ calls
 
 -- the lines of rows, and of late events, of the one window

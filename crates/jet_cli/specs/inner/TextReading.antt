@@ -2,13 +2,19 @@
 use Rattle.std.specs.Prelude.{◌≡◌, ℕ, ◌<◌, ◌≤◌, List, [], length, sum}
 use Rattle.jet_file.specs.Outside.{Told, rest_of}
 use Rattle.jet_file.specs.Reading.{HasRead}
+use Rattle.jet_worker.specs.Calls.{ArePieces}
 use Rattle.jet_worker.specs.Feeding.{StopsReads}
 use Rattle.jet_worker.specs.declared.stop.Spot.{Spot}
 use Rattle.jet_worker.specs.declared.stop.Stop.{Stop}
 
+-- this text of the file was read, piece by piece
+pub record TakesText (file : ℕ) (text : List ℕ) (old now : Told) : Type 0 where
+  pub read : HasRead file text old now
+  pub pieces : ArePieces read.counts
+
 -- the text is what is left of the file, but for what goes beyond so many bytes
 pub record ReadsFront (file most : ℕ) (text : List ℕ) (old new : Told) : Type 0 where
-  pub read : HasRead file text old new
+  pub took : TakesText file text old new
   pub short : length text ≤ most
   pub all : length text < most → rest_of new file ≡ []
 

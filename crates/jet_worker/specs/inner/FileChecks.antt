@@ -1,12 +1,12 @@
 -- The reading and the check of one opened file.
-use Rattle.std.specs.Prelude.{◌≡◌, ◌≢◌, ◌⊎◌, ℕ, ◌+◌, Bool, true, List, [], ◌++◌, length, map, Option, Some, None, Result, Ok, Err, ⊤}
+use Rattle.std.specs.Prelude.{◌≡◌, ◌≢◌, ◌⊎◌, ℕ, ◌+◌, Bool, true, List, [], ◌++◌, length, map, sum, Option, Some, None, Result, Ok, Err, ⊤}
 use Rattle.jet_lines.specs.Cutting.{MayCome}
 use Rattle.jet_lines.specs.Lines.{lines_of}
 use Rattle.jet_lines.specs.LinesValue.{LinesValue}
 use Rattle.jet_file.specs.Outside.{Told, CallMade, WhereTold, Read, rest_of}
 use Rattle.jet_file.specs.declared.outside.Out.TheVariants as out
 use Rattle.jet_flow.specs.DataFiles.{DataFile}
-use Rattle.jet_worker.specs.Calls.{turn_calls}
+use Rattle.jet_worker.specs.Calls.{ArePieces, turn_calls}
 use Rattle.jet_worker.specs.CheckText.{Checks, check_line, first_bad}
 use Rattle.jet_worker.specs.Feeding.{StopsReads}
 use Rattle.jet_worker.specs.Stopping.{IsCallIn, IsNoBadLine, LastIs}
@@ -26,6 +26,8 @@ pub record HasTaken (at : ℕ) (bytes : List ℕ) (ended : Bool) (old now : Told
   pub taken : (now.place at).taken ≡ (old.place at).taken + length bytes
   pub others : (other : ℕ) → other ≢ at → now.place other ≡ old.place other
   pub counts : List ℕ
+  pub sum : sum counts ≡ length bytes
+  pub pieces : ArePieces counts
   pub trace : now.trace ≡ old.trace ++ map (Read at) counts
 
 -- these bytes of the file were taken and cut into these lines, which were counted
@@ -74,7 +76,10 @@ pub record HasChecked (c : Checks) (p : ℕ × DataFile) (at : ℕ) (old now : T
   pub rows : now.written out.Rows ≡ old.written out.Rows ++ check_line c p bytes
   pub notes : now.written out.Notes ≡ old.written out.Notes
   pub counts : List ℕ
+  pub pieces : ArePieces counts
+  pub reads : sum counts ≡ length bytes
   pub lengths : List ℕ
+  pub writes : sum lengths ≡ length (check_line c p bytes)
   pub trace : now.trace ≡ old.trace ++ turn_calls (record { file = at; counts = counts; lengths = lengths })
 
 -- the front of a good file's line, or nothing
@@ -92,7 +97,9 @@ pub record StopsChecking (c : Checks) (p : ℕ × DataFile) (at : ℕ) (stop : S
   pub rows : new.written out.Rows ≡ old.written out.Rows ++ front
   pub notes : new.written out.Notes ≡ old.written out.Notes
   pub counts : List ℕ
+  pub pieces : ArePieces counts
   pub lengths : List ℕ
+  pub order : (lengths ≡ []) ⊎ (sum counts ≡ length (rest_of old at))
   pub last : List CallMade
   pub fails : LastIs (IsCallIn (Part p.0) at) stop last
   pub trace : new.trace ≡ old.trace ++ turn_calls (record { file = at; counts = counts; lengths = lengths }) ++ last

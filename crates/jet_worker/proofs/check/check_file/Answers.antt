@@ -14,7 +14,7 @@ returns-in_err-lines-clause-told g c =
 pub returns-in-Ok-clause-told : goal.returns-in-Ok-clause-told
 returns-in-Ok-clause-told g c =
     let fits : FitsSigned w64 c.args.limits.unit = search rules in λ check most unit.
-    goes_text check (c.args.file.now.part, file_in c.args.file.now.file) c.args.file.now.at c.in_ok-lines.lines c.tally_lines.new.tally c.as_bytes.result.now c.write_text.result
+    goes_text c.laws_of_lines.ensures check (c.args.file.now.part, file_in c.args.file.now.file) c.args.file.now.at c.in_ok-lines.lines c.tally_lines.new.tally c.as_bytes.result.now c.write_text.result
     (g.O.Outside.told c.args.out.now) (g.O.Outside.told c.tally_lines.new.out) (g.O.Outside.told c.write_text.new.out)
     (λ bytes tallied count. c.as_bytes.ensures.value ∙ c.in-Ok.ensures check (file_in c.args.file.now.file) bytes tallied count)
     c.write_text.ensures.no_bad_line (c.in_ok-lines.ensures.told check (file_in c.args.file.now.file) most (c.new-tally.ensures.tallied check (to_z-of_z fits ∙ unit))) c.write_text.ensures.told

@@ -1,5 +1,5 @@
 use Rattle.std.proofs.Common.{◌≤◌, length, arith}
-use Rattle.jet_worker.specs.Feeding.{most_piece}
+use Rattle.jet_worker.specs.Calls.{most_piece}
 use Rattle.jet_worker.proofs.FeedLemmas.{goes_kept, goes_piece_fails, goes_read_stops, goes_unkept_piece}
 use Rattle.jet_worker.proofs.feed.read_piece.Goals as goal
 

@@ -36,7 +36,7 @@ cuts-preserved g c =
 pub returns-in_err-take_line-in-Line-clause-told : goal.returns-in_err-take_line-in-Line-clause-told
 returns-in_err-take_line-in-Line-clause-told g c =
     let p = err_from_is_err_and c.from_residual.result c.from_residual.ensures.1 in rw (p.1, p.2) (λ check f most tallied.
-    stops_at_line check (c.args.part, f) c.args.file (g.O.Outside.told c.args.out.now) (g.O.Outside.told c.cuts.out) c.cuts.lines c.cuts.tally (c.cuts.invariant.progress check f most tallied)
+    stops_at_line c.laws_of_lines.ensures check (c.args.part, f) c.args.file (g.O.Outside.told c.args.out.now) (g.O.Outside.told c.cuts.out) c.cuts.lines c.cuts.tally (c.cuts.invariant.progress check f most tallied)
     c.in-Line.number c.args.part c.line.result.now c.next.new.self c.in_err-take_line-in-Line.field-0.0 refl c.in-Line.ensures c.line.ensures c.in_err-take_line-in-Line.ensures.stop)
 
 pub returns-in_err-read_piece-in-More-clause-told : goal.returns-in_err-read_piece-in-More-clause-told
@@ -47,5 +47,5 @@ returns-in_err-read_piece-in-More-clause-told g c =
 
 pub returns-in-Bad-clause-told : goal.returns-in-Bad-clause-told
 returns-in-Bad-clause-told g c = λ check f most tallied.
-    stops_at_cut check (c.args.part, f) c.args.file (g.O.Outside.told c.args.out.now) (g.O.Outside.told c.cuts.out) c.cuts.lines c.cuts.tally (c.cuts.invariant.progress check f most tallied)
+    stops_at_cut c.laws_of_lines.ensures check (c.args.part, f) c.args.file (g.O.Outside.told c.args.out.now) (g.O.Outside.told c.cuts.out) c.cuts.lines c.cuts.tally (c.cuts.invariant.progress check f most tallied)
     c.in-Bad.line c.args.part c.in-Bad.why c.next.new.self refl c.in-Bad.ensures

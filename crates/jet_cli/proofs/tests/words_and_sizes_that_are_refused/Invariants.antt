@@ -1,4 +1,0 @@
-use Rattle.jet_cli.proofs.tests.words_and_sizes_that_are_refused.Given as goal
-
-abbrev pub ghosts-check : goal.ghosts-check
-ghosts-check g a = record { name = a.blank.name; parts = a.blank.parts }
