@@ -8,7 +8,7 @@ ghost use Rattle.jet_lines.specs.Readings.{Gives, entry_at, event_at, event_line
 use crate::entry::Entry;
 use crate::fault::LineFault;
 use crate::number::number_of;
-use crate::quick::{quick_event, quick_side};
+use crate::quick::{good_event, good_side};
 use crate::record::{record_of, text_at};
 use csv::ByteRecord;
 use jet_items::{Event, Key, Refused, Side};
@@ -35,10 +35,7 @@ pub fn read_line(
     if line == IDLE {
         return Ok(Entry::Idle);
     }
-    if let Some(event) = quick_event::<false>(line, part, number) {
-        return Ok(Entry::Event(event));
-    }
-    if let Some(event) = quick_event::<true>(line, part, number) {
+    if let Some(event) = good_event(line, part, number) {
         return Ok(Entry::Event(event));
     }
     match record_of(alloc, line) {
@@ -78,10 +75,7 @@ pub fn read_side(
     if line.is_empty() {
         return Ok(None);
     }
-    if let Some(side) = quick_side::<false>(line, number) {
-        return Ok(Some(side));
-    }
-    if let Some(side) = quick_side::<true>(line, number) {
+    if let Some(side) = good_side(line, number) {
         return Ok(Some(side));
     }
     match record_of(alloc, line) {

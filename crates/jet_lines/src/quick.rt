@@ -14,8 +14,28 @@ use crate::cut::MOST_BYTES;
 use crate::number::{MOST, leading_digits, number_of};
 use jet_items::{Event, Key, Side};
 
-/// The event of a line, where the line is good, and none of its fields stands between quotation marks unless `QUOTED`.
-pub(crate) fn quick_event<const QUOTED: bool>(line: &[u8], part: u16, number: u32) -> Option<Event>
+/// The event of a line, where the line is good.
+pub(crate) fn good_event(line: &[u8], part: u16, number: u32) -> Option<Event>
+    ensures { IfSome result (λ e. line_at (event_at part number) line.now ≡ Ok (Some e)) }
+{
+    match quick_event::<false>(line, part, number) {
+        Some(event) => Some(event),
+        None => quick_event::<true>(line, part, number),
+    }
+}
+
+/// The row of a side line, where the line is good.
+pub(crate) fn good_side(line: &[u8], number: u32) -> Option<Side>
+    ensures { IfSome result (λ s. line_at (side_at number) line.now ≡ Ok (Some s)) }
+{
+    match quick_side::<false>(line, number) {
+        Some(side) => Some(side),
+        None => quick_side::<true>(line, number),
+    }
+}
+
+// The same, where none of the fields stands between quotation marks unless `QUOTED`.
+fn quick_event<const QUOTED: bool>(line: &[u8], part: u16, number: u32) -> Option<Event>
     ensures { IfSome result (λ e. line_at (event_at part number) line.now ≡ Ok (Some e)) }
 {
     if line.len() > MOST_BYTES {
@@ -34,8 +54,8 @@ pub(crate) fn quick_event<const QUOTED: bool>(line: &[u8], part: u16, number: u3
     })
 }
 
-/// The row of such a side line.
-pub(crate) fn quick_side<const QUOTED: bool>(line: &[u8], number: u32) -> Option<Side>
+// The row of such a side line.
+fn quick_side<const QUOTED: bool>(line: &[u8], number: u32) -> Option<Side>
     ensures { IfSome result (λ s. line_at (side_at number) line.now ≡ Ok (Some s)) }
 {
     if line.len() > MOST_BYTES {

@@ -4,7 +4,7 @@ use Rattle.jet_lines.proofs.QuickLemmas.{event_holds, kept}
 use Rattle.jet_lines.proofs.quick.quick_event.Goals as goal
 
 pub returns : goal.returns
-returns c =
+returns g c =
     let line = c.args.line.now in
     let rest = c.in_ok-after.field-0.now in
     let more = c.in_ok-after-2.field-0.now in

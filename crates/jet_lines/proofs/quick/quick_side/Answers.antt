@@ -4,7 +4,7 @@ use Rattle.jet_lines.proofs.QuickLemmas.{side_holds}
 use Rattle.jet_lines.proofs.quick.quick_side.Goals as goal
 
 pub returns : goal.returns
-returns c =
+returns g c =
     let line = c.args.line.now in
     let rest = c.in_ok-after.field-0.now in
     let text = c.in_ok-key_text.key_text.now in

@@ -3,7 +3,7 @@ use Rattle.jet_lines.proofs.QuickLemmas.{four_values, kept}
 use Rattle.jet_lines.proofs.quick.values.Goals as goal
 
 pub returns-in-None-clause-values : goal.returns-in-None-clause-values
-returns-in-None-clause-values c =
+returns-in-None-clause-values g c =
     let v0 = c.in_ok-v0 in
     let v1 = c.in_ok-v1 in
     let v2 = c.in_ok-v2 in
