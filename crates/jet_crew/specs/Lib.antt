@@ -1,0 +1,4 @@
+pub mod Turns
+pub mod Epoch
+pub mod Gather
+pub mod inner

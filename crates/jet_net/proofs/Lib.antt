@@ -1,0 +1,4 @@
+pub mod Resting
+pub mod Passing
+pub mod Ending
+pub mod LetThrough
