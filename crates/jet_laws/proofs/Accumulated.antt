@@ -24,10 +24,12 @@ event_of : ℤ → EventValue
 event_of v = record { part = 0; line = 0; ts = pos 0; key = []; v = v ∷ [] }
 
 all_members : (values : List ℤ) → map first_value (members (pos 1) (pos 1) [] (map event_of values)) ≡ values
+unfolding event_of
 all_members [] = refl
 all_members (v ∷ vs) = ap (λ (xs : List ℤ). v ∷ xs) (all_members vs)
 
 same_total : (values : List ℤ) → total (event_in (pos 1) (pos 1) []) (map event_of values) ≡ total (λ z. Some (one z)) values
+unfolding event_of
 same_total [] = refl
 same_total (v ∷ vs) = ap (both (Some (one v))) (same_total vs)
 
