@@ -5,7 +5,7 @@ ghost use Rattle.jet_layout.specs.Files.{file_port, file_ports, files_from, chos
 
 use crate::{EdgeEnd, Port};
 use jet_items::{List, NoMemory};
-use jet_plan::Vertex;
+use jet_plan::{Kind, Vertex};
 
 // The input that takes the file at a place in the list of its vertex.
 fn file_port(end: EdgeEnd, members: u32, place: usize) -> Port
@@ -40,10 +40,10 @@ fn add_ports(
 fn chosen_files(vertex: &Vertex, sides: bool) -> usize
     ensures { result ≡ chosen_files sides vertex.now.kind }
 {
-    if vertex.kind.is_side() == sides {
-        vertex.kind.file_count()
-    } else {
-        0
+    match &vertex.kind {
+        Kind::Source { files, .. } if !sides => files.items().len(),
+        Kind::Side { .. } if sides => 1,
+        _ => 0,
     }
 }
 

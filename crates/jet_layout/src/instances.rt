@@ -8,7 +8,7 @@ ghost use Rattle.jet_layout.specs.Tasks.{task_count, member_tasks, vertex_tasks,
 
 use crate::{EdgeEnd, Instance, Task};
 use jet_items::{List, NoMemory};
-use jet_plan::Vertex;
+use jet_plan::{Kind, Vertex};
 
 // A vertex as an end of edges; its first tasklet has this number.
 fn vertex_end(first: u32, vertex: &Vertex) -> EdgeEnd
@@ -17,8 +17,8 @@ fn vertex_end(first: u32, vertex: &Vertex) -> EdgeEnd
     EdgeEnd {
         first,
         parallelism: vertex.parallelism,
-        single: vertex.kind.is_side() || vertex.kind.is_sink(),
-        sink: vertex.kind.is_sink(),
+        single: matches!(vertex.kind, Kind::Side { .. } | Kind::Sink),
+        sink: matches!(vertex.kind, Kind::Sink),
         number: 0,
     }
 }

@@ -7,6 +7,7 @@ ghost use Rattle.jet_layout.specs.Wires.{producer_wires, local_wires, link_wires
 
 use crate::{Joint, Link, Port, Taker, Wire};
 use jet_items::{List, NoMemory};
+use jet_plan::Route;
 
 // Adds the rings out of a producer to the consumers on its own member.
 #[tactic(auto, using(crate::proofs::Ranges::map_more))]
@@ -20,7 +21,7 @@ fn add_producer(
 {
     let giver = joint.from.port(member, producer);
     let consumers = joint.to.count(member);
-    if joint.route.is_isolated() {
+    if matches!(joint.route, Route::Isolated) {
         if consumers != 0 {
             let taker = joint.to.taker(member, producer % consumers);
             wires.push(Wire { giver, taker })?;
