@@ -361,7 +361,9 @@ fn answers_apart<R: Threads + Sync>(
     let mut sender = moved_apart(rt, edge.sender);
     let mut receiver = moved_apart(rt, edge.receiver);
     meet_around(source, &mut sender, &mut receiver);
-    Ok((sender.turn()?, receiver.turn()?))
+    // The receiver first: it may find at once what its sender pushes.
+    let received = receiver.turn()?;
+    Ok((sender.turn()?, received))
 }
 
 #[test]
