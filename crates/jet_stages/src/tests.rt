@@ -146,12 +146,10 @@ fn stamped(alloc: Global) -> Result<Vec<Item>, NoMemory> {
     let mut stamp = Stamp::new(alloc, 1, 3, 5)?;
     let mut out = Outbox::new(alloc, 1)?;
     let mut given = Vec::new(alloc);
-    if let Some(item) = event(1, 7, 0, 0) {
-        give(&mut stamp, 0, &item, &mut out, &mut given)?;
-    }
-    if let Some(item) = event(2, 20, 0, 0) {
-        give(&mut stamp, 0, &item, &mut out, &mut given)?;
-    }
+    let first = event(1, 7, 0, 0).ok_or(NoMemory)?;
+    let second = event(2, 20, 0, 0).ok_or(NoMemory)?;
+    give(&mut stamp, 0, &first, &mut out, &mut given)?;
+    give(&mut stamp, 0, &second, &mut out, &mut given)?;
     Ok(given)
 }
 

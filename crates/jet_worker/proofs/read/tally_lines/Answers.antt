@@ -1,9 +1,20 @@
-use Rattle.std.proofs.Common.{◌≡◌, ◌∙◌, ℕ, refl, sym, ap, subst}
+use Rattle.std.proofs.Common.{◌≡◌, ◌∙◌, ℕ, [], false, refl, sym, ap, subst}
 use Rattle.std.proofs.lemmas.Result.{err_from_is_err_and}
 use Rattle.jet_lines.specs.LinesValue.{LinesValue}
 use Rattle.jet_worker.specs.inner.Tallying.{IsSmall}
-use Rattle.jet_worker.proofs.LoopLemmas.{number_stays, progress_line, progress_piece, stops_at_cut, stops_at_line, stops_at_read}
+use Rattle.jet_worker.proofs.LoopLemmas.{number_stays, progress_line, progress_piece, progress_starts, stops_at_cut, stops_at_line, stops_at_read}
 use Rattle.jet_worker.proofs.read.tally_lines.Goals as goal
+
+pub cuts-init : goal.cuts-init
+cuts-init g c = record {
+  progress = λ check f most tallied. progress_starts check (c.args.part, f) c.args.file (g.O.Outside.told c.args.out.now) c.new-lines.result c.args.tally.now
+      (subst (λ (n : ℕ). c.new-lines.result ≡ record { most = n; number = 0; ended = false; line = []; rest = []; held = 0 }) (sym most) c.new-lines.ensures) tallied;
+  small = subst (λ (n : ℕ). IsSmall n c.args.tally.now) (sym (ap (λ (v : LinesValue). v.number) c.new-lines.ensures)) c.requires.small;
+  count_is = sym (ap (λ (v : LinesValue). v.number) c.new-lines.ensures);
+  opened_same = refl;
+  steady_same = refl;
+  faults_same = refl;
+}
 
 pub cuts-preserved-in-Line : goal.cuts-preserved-in-Line
 cuts-preserved-in-Line g c =
