@@ -165,7 +165,7 @@ receiver_turned_on a b c f g =
     }
 
 pub receiver_still_on : (a b c : ReceiverView) → ReceiverIsStill a b → ReceiverIsStill b c → ReceiverIsStill a c
-receiver_still_on a b c f g = record { sent = g.sent ∙ f.sent; packets = g.packets ∙ f.packets; acks = g.acks ∙ f.acks; held = g.held ∙ f.held }
+receiver_still_on a b c f g = record { sent = g.sent ∙ f.sent; packets = g.packets ∙ f.packets; acks = g.acks ∙ f.acks; held = g.held ∙ f.held; at = g.at ∙ f.at; ended = g.ended ∙ f.ended }
 
 pub receiver_still_count : (a b : ReceiverView) → ReceiverIsStill a b → moved_count b ≡ moved_count a
 receiver_still_count a b s =
