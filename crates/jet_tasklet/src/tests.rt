@@ -7,7 +7,6 @@ ghost use Rattle.jet_tasklet.specs.Inputs.{inputs_view};
 ghost use Rattle.jet_tasklet.specs.Outputs.{outputs_view};
 ghost use Rattle.jet_tasklet.specs.Keeps.{IsLawful};
 ghost use Rattle.jet_tasklet.specs.Any.{AnyIsLawful};
-ghost use Rattle.jet_tasklet.specs.Meeting.{AreLinkEnds};
 ghost use Rattle.jet_tasklet.specs.inner.Chain.{ring_in, ring_out, ends_of, AreJoined, IsChain};
 
 use super::*;
@@ -19,11 +18,8 @@ use jet_ring::{Rx, Tx, ring};
 use jet_router::Router;
 use jet_stages::Stamp;
 use jet_window::{CombineP, FrameP};
-use jet_wire::{LinkShape, Receiver, Sender, link};
 use std::alloc::Global;
 use std::test::Fail;
-use std::thread;
-use std::thread::Threads;
 
 // A tasklet of one queue and one destination.
 fn single<P: Processor + Drop>(
@@ -273,106 +269,5 @@ fn a_turn_moves_something_or_waits_or_is_the_last(rt: HostRuntime) -> Result<(),
     assert_eq!(rt; turn_after_meetings(&mut chain, 0)?, Progress::Moved);
     assert_eq!(rt; turn_after_meetings(&mut chain, 0)?, Progress::Moved);
     assert_eq!(rt; turn_after_meetings(&mut chain, 0)?, Progress::Done);
-    Ok(())
-}
-
-fn same(tasklet: AnyTasklet) -> AnyTasklet
-    ensures { result ≡ tasklet }
-{
-    tasklet
-}
-
-fn moved_apart<R: Threads + Sync>(rt: &R, tasklet: AnyTasklet) -> AnyTasklet
-    ensures { result ≡ tasklet }
-{
-    let (moved, _) = thread::join(rt, move || same(tasklet), || ());
-    moved
-}
-
-#[test]
-fn a_tasklet_crosses_to_a_thread_and_back(rt: HostRuntime) -> Result<(), Fail> {
-    let (_, queue) = ring::<Item>(rt.alloc(), 2)?;
-    let (dest, _) = ring::<Item>(rt.alloc(), 2)?;
-    let stamp = single(rt.alloc(), Stamp::new(rt.alloc(), 1, 3, 5)?, queue, dest)?;
-    let mut tasklet = moved_apart(&rt, AnyTasklet::Stamp(stamp));
-    assert_eq!(rt; tasklet.turn()?, Progress::Idle);
-    Ok(())
-}
-
-// The least packet, window and grant.
-const SHAPE: LinkShape = LinkShape {
-    packet: 256,
-    window: 1,
-    peak: 1,
-    multiplier: 1,
-    period: 1,
-    buffers: 4,
-};
-
-// The two ends of a link.
-#[derive(Drop)]
-struct Edge {
-    sender: AnyTasklet,
-    receiver: AnyTasklet,
-}
-
-fn new_edge(alloc: Global, queue: Rx<Item>, dest: Tx<Item>) -> Result<Edge, NoMemory>
-    requires unread { received queue ≡ [] }
-    requires unsent { sent dest ≡ [] }
-    ensures sender { IfOk result (λ e. AnyIsLawful e.sender) }
-    ensures receiver { IfOk result (λ e. AnyIsLawful e.receiver) }
-    ensures link { IfOk result (λ e. AreLinkEnds e.sender e.receiver) }
-    ensures takes { IfOk result (λ e. (ends_of e.sender).takes ≡ Some (rx_ring queue)) }
-{
-    let (near, far) = link(alloc, SHAPE)?;
-    let conveyor = Conveyor::new(alloc, Vec::from_array(alloc, [queue])?)?;
-    let sender = Sender::new(alloc, conveyor, near)?;
-    let receiver = Receiver::new(far, Router::isolated(alloc, dest)?);
-    Ok(Edge {
-        sender: AnyTasklet::Send(sender),
-        receiver: AnyTasklet::Receive(receiver),
-    })
-}
-
-// The ends of a link meet, and the sender and the source of its queue.
-fn meet_around(source: &mut Tx<Item>, sender: &mut AnyTasklet, receiver: &mut AnyTasklet)
-    requires sender { AnyIsLawful sender.old }
-    requires receiver { AnyIsLawful receiver.old }
-    requires link { AreLinkEnds sender.old receiver.old }
-    requires joined { (ends_of sender.old).takes ≡ Some (tx_ring source.old) }
-    ensures sender { AnyIsLawful sender.new }
-    ensures receiver { AnyIsLawful receiver.new }
-{
-    meet_link(sender, receiver);
-    meet_source(source, sender);
-}
-
-// What the two ends of a link answer once they have crossed to a thread and back, and have met.
-fn answers_apart<R: Threads + Sync>(
-    rt: &R,
-    edge: Edge,
-    source: &mut Tx<Item>,
-) -> Result<(Progress, Progress), NoMemory>
-    requires sender { AnyIsLawful edge.sender }
-    requires receiver { AnyIsLawful edge.receiver }
-    requires link { AreLinkEnds edge.sender edge.receiver }
-    requires joined { (ends_of edge.sender).takes ≡ Some (tx_ring source.old) }
-{
-    let mut sender = moved_apart(rt, edge.sender);
-    let mut receiver = moved_apart(rt, edge.receiver);
-    meet_around(source, &mut sender, &mut receiver);
-    // The receiver first: it may find at once what its sender pushes.
-    let received = receiver.turn()?;
-    Ok((sender.turn()?, received))
-}
-
-#[test]
-fn the_ends_of_a_link_cross_to_a_thread_and_back(rt: HostRuntime) -> Result<(), Fail> {
-    let (mut source, queue) = ring::<Item>(rt.alloc(), 2)?;
-    let (dest, _) = ring::<Item>(rt.alloc(), 2)?;
-    let edge = new_edge(rt.alloc(), queue, dest)?;
-    assert!(rt; source.offer(Item::Done).is_ok());
-    let answers = answers_apart(&rt, edge, &mut source)?;
-    assert_eq!(rt; answers, (Progress::Moved, Progress::Idle));
     Ok(())
 }
