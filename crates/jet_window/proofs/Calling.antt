@@ -3,7 +3,9 @@ use Rattle.std.proofs.Common.{◌≡◌, ℕ, Bool, true, false, ◌&&◌, ℤ, 
 use Rattle.std.specs.Prelude.{bytes_eq, IsErr, OnErr}
 use Rattle.jet_items.specs.Values.{AccValue, FrameValue}
 use Rattle.jet_items.specs.Totals.{both, total}
-use Rattle.jet_items.proofs.Covering.{Decides-covers}
+use Rattle.std.specs.Ordering.{int_eq}
+use Rattle.std.proofs.lemmas.Bool.Decides.{Decides-int_eq}
+use Rattle.jet_items.proofs.Covering.{Decides-covers, false_from}
 use Rattle.jet_items.specs.Frames.{covers}
 use Rattle.jet_items.specs.Ranges.{IsWithin, most_frame_end}
 use Rattle.jet_items.specs.declared.item.Item.{Item}
@@ -16,7 +18,7 @@ use Rattle.jet_boxes.specs.Held.{BoxView}
 use Rattle.jet_window.specs.CombineCalls.{Stands, Amid, Alike}
 use Rattle.jet_window.specs.declared.combine.CombineP.{CombineP}
 use Rattle.jet_window.specs.Tables.{Place, place_cmp}
-use Rattle.jet_window.specs.FrameTables.{Table, joined_in, held_in, IsKept}
+use Rattle.jet_window.specs.FrameTables.{Table, joined_in, held_at, held_in, IsKept}
 use Rattle.jet_window.specs.Combining.{Clear, Passes, OpenAbove, IsOver}
 use Rattle.jet_window.specs.Later.{later_of}
 use Rattle.jet_window.specs.Taken.{is_due, InOpenWindow}
@@ -123,6 +125,7 @@ frame_call p z port queue f before range in_window rest w e r h =
           (subst (λ (x : Combine). CombineStands (start_of p) p.last x (taken ++ Given port queue (item.Frame f) ∷ []) (given ++ [])) same
           (stands_frame (start_of p) p.last (combine_of p) taken given port queue f new
           (λ d key kept m b. total-joined_in (λ z. bytes_eq z.1 key && covers p.policy.size d z.0) (f.end, f.key) f.acc p.held kept.ordered)
+          (λ d key kept w. total-joined_in (λ z. bytes_eq z.1 key && int_eq z.0 d) (f.end, f.key) f.acc p.held kept.ordered)
           (grows p.policy.size p.held f range)
           (λ due above old. each_insert place_cmp place_total place_equal (λ (z : Place). InOpenWindow p.policy.size p.policy.slide due z.0) (f.end, f.key) _ p.held old
           (in_window.0, in_window.1, in_window.2, above in_window.0 in_window.3 ((Decides-covers p.policy.size in_window.0 f.end).0 in_window.2).1)) k));
@@ -142,9 +145,13 @@ over_call p port queue f before over = record {
   wants = tt;
   keeps = λ taken given k. stands_frame (start_of p) p.last (combine_of p) taken given port queue f p.held
       (λ d key kept m b. ap (λ (o : Option AccValue). both o (total (held_in p.policy.size d key) p.held)) (sym (share_none (bytes_eq f.key key) (covers p.policy.size d f.end) f.acc (over d m b))))
+      (λ d key kept w. ap (λ (o : Option AccValue). both o (total (held_at d key) p.held)) (sym (share_none (bytes_eq f.key key) (int_eq f.end d) f.acc (apart d w))))
       (λ kept. kept) (λ due above old. old) k;
 }
   where
+    apart : (d : ℤ) → InOpenWindow p.policy.size p.policy.slide (is_due p.begun) d → int_eq f.end d ≡ false
+    apart d w = false_from (int_eq f.end d) (Decides-int_eq f.end d) (λ same. not_true (sym (subst (λ (z : ℤ). covers p.policy.size w.0 z ≡ false) same (over w.0 w.1 w.3)) ∙ w.2))
+
     never : (let yes : Result Bool NoMemory = Ok true in yes ≡ Ok false) → ⊥
     never g = absurd (cc)
 

@@ -8,7 +8,7 @@ use Rattle.std.specs.Cmp.Lexicographic.{slice_cmp}
 use Rattle.jet_items.proofs.Orders.{Each-more}
 use Rattle.jet_items.specs.Ranges.{IsWithin, most_frame_end}
 use Rattle.std.specs.Int.{int_rem_euclid}
-use Rattle.std.specs.Ordering.{nat_cmp, ordering_then}
+use Rattle.std.specs.Ordering.{int_eq, nat_cmp, ordering_then}
 use Rattle.std.proofs.lemmas.Int.{ints, by_lt_z}
 use Rattle.std.proofs.lemmas.Bool.Decides.{Decides-int_eq}
 use Rattle.jet_items.specs.Grid.{IsMultiple, IsFrameEnd, IsFloor, floor_to}
@@ -82,20 +82,30 @@ stale size slide passed end e d b a up le m due =
     none true = refl
     none false = refl
 
+stale_at : (size slide : ℤ) (passed : Option ℤ) (end e d : ℤ) (b : Bool) (a : AccValue) → IsEndAbove slide passed end e → (end +ℤ size) ≤ℤ e → InOpenWindow size slide (is_due passed) d → only (b && int_eq end d) a ≡ None
+stale_at size slide passed end e d b a up le w =
+    rw (false_from (int_eq end d) (Decides-int_eq end d) (λ same. let at : end ≡ d = same in let c = (Decides-covers size w.0 d).0 w.2 in let p = c.0 in let q = c.1 in let low : e ≤ℤ w.0 = up.least w.0 w.1 w.3 (omega (arith, ints)) in absurd (omega (arith, ints)))) (none b)
+  where
+    none : (b : Bool) → only (b && false) a ≡ None
+    none true = refl
+    none false = refl
+
 pub forget_first : (size slide : ℤ) (passed : Option ℤ) (f : Place × AccValue) (fs : Table) (e : ℤ) → IsEndAbove slide passed f.0.0 e → (f.0.0 +ℤ size) ≤ℤ e → Forgets size slide passed (f ∷ fs) fs
 forget_first size slide passed f fs e up le = record {
   leaves = λ d key m b. rw (stale size slide passed f.0.0 e d (bytes_eq f.0.1 key) f.1 up le m b) refl;
+  leaves_at = λ d key w. rw (stale_at size slide passed f.0.0 e d (bytes_eq f.0.1 key) f.1 up le w) refl;
   kept = λ h. record { ordered = h.ordered.1; ranges = h.ranges.1 };
   first = f ∷ [];
   held_is = refl;
 }
 
 pub Forgets-refl : (size slide : ℤ) (passed : Option ℤ) (held : Table) → Forgets size slide passed held held
-Forgets-refl size slide passed held = record { leaves = λ d key m b. refl; kept = λ h. h; first = []; held_is = refl }
+Forgets-refl size slide passed held = record { leaves = λ d key m b. refl; leaves_at = λ d key w. refl; kept = λ h. h; first = []; held_is = refl }
 
 pub Forgets-trans : (size slide : ℤ) (passed : Option ℤ) (a b c : Table) → Forgets size slide passed a b → Forgets size slide passed b c → Forgets size slide passed a c
 Forgets-trans size slide passed a b c h k = record {
   leaves = λ d key m n. k.leaves d key m n ∙ h.leaves d key m n;
+  leaves_at = λ d key w. k.leaves_at d key w ∙ h.leaves_at d key w;
   kept = λ x. k.kept (h.kept x);
   first = h.first ++ k.first;
   held_is = h.held_is ∙ (ap (λ (t : Table). h.first ++ t) k.held_is ∙ sym (append_assoc h.first k.first c));

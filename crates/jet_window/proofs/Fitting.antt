@@ -10,14 +10,14 @@ use Rattle.std.proofs.lemmas.Bool.Decides.{Decides-int_eq}
 use Rattle.std.proofs.lemmas.List.Concat.{flat_map-append}
 use Rattle.jet_items.specs.Values.{AccValue, FrameValue, RowValue}
 use Rattle.jet_items.specs.Totals.{both, total}
-use Rattle.jet_items.specs.Frames.{only, covers, frame_in}
+use Rattle.jet_items.specs.Frames.{only, covers, frame_at, frame_in}
 use Rattle.jet_items.specs.Order.{Each, EachPair}
 use Rattle.jet_items.proofs.Orders.{Each-append, Each-more, EachPair-append}
 use Rattle.jet_items.proofs.Totaling.{both_none, both_comm, total-append}
 use Rattle.jet_items.proofs.Covering.{Decides-int_lt, Decides-int_le, Decides-covers, false_from, not_so}
-use Rattle.jet_window.specs.FrameTables.{Table, held_in}
+use Rattle.jet_window.specs.FrameTables.{Table, held_at, held_in}
 use Rattle.jet_window.specs.Tables.{is_multiple}
-use Rattle.jet_window.specs.Taken.{is_due}
+use Rattle.jet_window.specs.Taken.{is_due, InOpenWindow}
 use Rattle.jet_window.specs.WindowRows.{as_list, row_at, rows_at, Rises}
 use Rattle.jet_window.specs.Combining.{row_of, accs_at, Fits, TakesUp, Passes, Forgets}
 use Rattle.jet_window.specs.Later.{newly}
@@ -174,6 +174,9 @@ Fits-up vertex size slide begun passed held frames rows e ready rest begins fits
       held_is = λ d key m b.
           let gt : e <ℤ d = by_lt_z e d (λ lt. lt) (λ le. absurd (not_so (int_le d e) (Decides-int_le d e) b le)) in
           up.leaves d key m gt ∙ fits.held_is d key m (not_due_above passed e d up.later (omega (arith, ints)));
+      held_at_is = λ d key w.
+          let gt : e <ℤ w.0 = by_lt_z e w.0 (λ lt. lt) (λ le. absurd (not_so (int_le w.0 e) (Decides-int_le w.0 e) w.3 le)) in
+          up.leaves_at d key w ∙ fits.held_at_is d key (w.0, w.1, w.2, not_due_above passed e w.0 up.later (omega (arith, ints)));
       rows_are = record {
         each = up_each vertex size slide begun passed held frames rows e ready rest begins fits up;
         vertices = Each-append (λ (r : RowValue). r.vertex ≡ vertex) rows new fits.rows_are.vertices (ready_vertices vertex e ready);
@@ -200,6 +203,7 @@ pub Fits-pass : (vertex : ℕ) (size slide : ℤ) (begun passed next : Option �
 Fits-pass vertex size slide begun passed next held frames rows fits passes clear =
     record {
       held_is = λ d key m b. fits.held_is d key m (not_begun passed next d passes b);
+      held_at_is = λ d key w. fits.held_at_is d key (w.0, w.1, w.2, not_begun passed next w.0 passes w.3);
       rows_are = record {
         each = λ d key. fits.rows_are.each d key
             ∙ pass_case (is_due begun d) (is_multiple slide d) (is_due passed d) (is_due next d) (total (frame_in size d key) frames)
@@ -212,6 +216,9 @@ Fits-pass vertex size slide begun passed next held frames rows fits passes clear
     }
 
 -- ---- a frame is taken
+pub total-push : {X : Type 0} (share : X → Option AccValue) (xs : List X) (x : X) → total share (xs ++ x ∷ []) ≡ both (share x) (total share xs)
+total-push share xs x = total-append share xs (x ∷ []) ∙ (ap (both (total share xs)) (both_none (share x)) ∙ both_comm (total share xs) (share x))
+
 -- a frame that ends above what passed touches no window that passed
 pub not_covered : (passed : Option ℤ) (size d end : ℤ) → is_due passed end ≡ false → is_due passed d ≡ true → covers size d end ≡ false
 not_covered passed size d end h k =
@@ -232,10 +239,12 @@ pub Fits-frame : (vertex : ℕ) (size slide : ℤ) (begun passed : Option ℤ) (
     → Fits vertex size slide begun passed held frames rows
     → ((d : ℤ) → is_multiple slide d ≡ true → newly begun (is_due passed) d ≡ true → covers size d f.end ≡ false)
     → ((d : ℤ) (key : List ℕ) → is_multiple slide d ≡ true → is_due passed d ≡ false → total (held_in size d key) held' ≡ both (frame_in size d key f) (total (held_in size d key) held))
+    → ((d : ℤ) (key : List ℕ) → InOpenWindow size slide (is_due passed) d → total (held_at d key) held' ≡ both (frame_at d key f) (total (held_at d key) held))
     → Fits vertex size slide begun passed held' (frames ++ f ∷ []) rows
-Fits-frame vertex size slide begun passed held frames rows f held' fits later grows =
+Fits-frame vertex size slide begun passed held frames rows f held' fits later grows grows_at =
     record {
-      held_is = λ d key m b. grows d key m b ∙ (ap (both (frame_in size d key f)) (fits.held_is d key m b) ∙ sym (more d key));
+      held_is = λ d key m b. grows d key m b ∙ (ap (both (frame_in size d key f)) (fits.held_is d key m b) ∙ sym (total-push (frame_in size d key) frames f));
+      held_at_is = λ d key w. grows_at d key w ∙ (ap (both (frame_at d key f)) (fits.held_at_is d key w) ∙ sym (total-push (frame_at d key) frames f));
       rows_are = record {
         each = λ d key. fits.rows_are.each d key
             ∙ (frame_case (is_multiple slide d) (newly begun (is_due passed) d) (frame_in size d key f) (total (frame_in size d key) frames)
@@ -246,9 +255,6 @@ Fits-frame vertex size slide begun passed held frames rows f held' fits later gr
       };
       within = fits.within;
     }
-  where
-    more : (d : ℤ) (key : List ℕ) → total (frame_in size d key) (frames ++ f ∷ []) ≡ both (frame_in size d key f) (total (frame_in size d key) frames)
-    more d key = total-append (frame_in size d key) frames (f ∷ []) ∙ (ap (both (total (frame_in size d key) frames)) (both_none (frame_in size d key f)) ∙ both_comm (total (frame_in size d key) frames) (frame_in size d key f))
 
 -- what is newly due after a beginning alone
 never_new : (g m : Bool) (t : Option AccValue) → as_list {X = AccValue} None ≡ as_list (cond (m && cond g false g) t None)
@@ -257,9 +263,11 @@ never_new true false t = refl
 never_new false true t = refl
 never_new false false t = refl
 
-pub Fits-start : (vertex : ℕ) (size slide : ℤ) (begun : Option ℤ) (held : Table) (frames : List FrameValue) → ((e : ℤ) (key : List ℕ) → total (held_in size e key) held ≡ total (frame_in size e key) frames) → Fits vertex size slide begun begun held frames []
-Fits-start vertex size slide begun held frames joins = record {
+pub Fits-start : (vertex : ℕ) (size slide : ℤ) (begun : Option ℤ) (held : Table) (frames : List FrameValue) → ((e : ℤ) (key : List ℕ) → total (held_in size e key) held ≡ total (frame_in size e key) frames)
+    → ((end : ℤ) (key : List ℕ) → total (held_at end key) held ≡ total (frame_at end key) frames) → Fits vertex size slide begun begun held frames []
+Fits-start vertex size slide begun held frames joins joins_at = record {
   held_is = λ e key m b. joins e key;
+  held_at_is = λ d key w. joins_at d key;
   rows_are = record { each = λ e key. never_new (is_due begun e) (is_multiple slide e) (total (frame_in size e key) frames); vertices = tt; rising = tt };
   within = tt;
 }
@@ -269,6 +277,7 @@ pub Fits-forget : (vertex : ℕ) (size slide : ℤ) (begun passed : Option ℤ) 
     → Fits vertex size slide begun passed held frames rows → Forgets size slide passed held rest → Fits vertex size slide begun passed rest frames rows
 Fits-forget vertex size slide begun passed held rest frames rows fits f = record {
   held_is = λ d key m b. f.leaves d key m b ∙ fits.held_is d key m b;
+  held_at_is = λ d key w. f.leaves_at d key w ∙ fits.held_at_is d key w;
   rows_are = fits.rows_are;
   within = fits.within;
 }

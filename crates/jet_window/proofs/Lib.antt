@@ -4,6 +4,7 @@ pub mod Counts
 pub mod Driving
 pub mod Ending
 pub mod Ends
+pub mod Extremes
 pub mod Fitting
 pub mod FrameCalls
 pub mod Framing

@@ -6,7 +6,7 @@ use Rattle.std.proofs.lemmas.Int.{ints}
 use Rattle.std.proofs.lemmas.List.Concat.{flat_map-append}
 use Rattle.std.proofs.lemmas.List.Sums.{sum_by-append}
 use Rattle.jet_items.specs.Bag.{SameBag}
-use Rattle.jet_items.specs.Frames.{covers, frame_in}
+use Rattle.jet_items.specs.Frames.{covers, frame_at, frame_in}
 use Rattle.jet_items.specs.Kinds.{frames_of, rows_of, marks_of, as_event, as_side, as_frame, as_row, as_late, as_mark}
 use Rattle.jet_items.specs.Order.{Each, EachPair, SoundAfter, LateIsBehind, ClosedAfter, IsAbove}
 use Rattle.jet_items.specs.Totals.{both, total}
@@ -19,11 +19,11 @@ use Rattle.jet_window.specs.Idles.{as_idle}
 use Rattle.jet_window.specs.CombineLaws.{pending_none}
 use Rattle.jet_window.specs.CombineStands.{IsFrame, Promises, pending}
 use Rattle.jet_window.specs.Combining.{Fits, TakesUp, Passes, row_of}
-use Rattle.jet_window.specs.FrameTables.{Table, IsKept, held_in}
+use Rattle.jet_window.specs.FrameTables.{Table, IsKept, held_at, held_in}
 use Rattle.jet_window.specs.Later.{newly, later_of, later_due}
 use Rattle.jet_window.specs.Passing.{Shadows-append, Shadows-more, of_none, of_both, bag_both, alone_push, marks_none, data_open, after_marks, marks_below, closed_before, closed_push}
 use Rattle.jet_window.specs.Tables.{is_multiple}
-use Rattle.jet_window.specs.Taken.{is_due}
+use Rattle.jet_window.specs.Taken.{is_due, InOpenWindow}
 use Rattle.jet_window.proofs.Fitting.{Fits-up, Fits-pass, Fits-frame, due_more, le_true}
 
 -- the premise of what was taken before
@@ -174,9 +174,10 @@ Promises-pass vertex size slide begun start passed held promised input items x n
 -- ---- a frame is taken
 pub Promises-frame : (vertex : ℕ) (size slide : ℤ) (begun : Option ℤ) (start : List FrameValue) (passed : Option ℤ) (held : Table) (promised : List Item) (input : Type 0) (items : List Item) (f : FrameValue) (held' : Table)
     → (input → (d : ℤ) → is_multiple slide d ≡ true → newly begun (is_due passed) d ≡ true → covers size d f.end ≡ false)
-    → ((d : ℤ) (key : List ℕ) → is_multiple slide d ≡ true → is_due passed d ≡ false → total (held_in size d key) held' ≡ both (frame_in size d key f) (total (held_in size d key) held)) → IsKept held'
+    → ((d : ℤ) (key : List ℕ) → is_multiple slide d ≡ true → is_due passed d ≡ false → total (held_in size d key) held' ≡ both (frame_in size d key f) (total (held_in size d key) held))
+    → ((d : ℤ) (key : List ℕ) → InOpenWindow size slide (is_due passed) d → total (held_at d key) held' ≡ both (frame_at d key f) (total (held_at d key) held)) → IsKept held'
     → Promises vertex size slide begun start passed held promised input items → Promises vertex size slide begun start passed held' promised input (items ++ item.Frame f ∷ [])
-Promises-frame vertex size slide begun start passed held promised input items f held' later grows order p =
+Promises-frame vertex size slide begun start passed held promised input items f held' later grows grows_at order p =
     let v : Item = item.Frame f in
     let same_rows : rows_of (items ++ v ∷ []) ≡ rows_of items = of_none as_row items v refl in
     record {
@@ -196,7 +197,7 @@ Promises-frame vertex size slide begun start passed held promised input items f 
       alone = λ none. p.alone (sym same_rows ∙ none);
       begins = p.begins;
       fits = λ i. subst (λ (fs : List FrameValue). Fits vertex size slide begun passed held' fs p.own) (append_assoc start (frames_of items) (f ∷ []) ∙ ap (λ (fs : List FrameValue). start ++ fs) (sym (flat_map-append as_frame items (v ∷ []))))
-          (Fits-frame vertex size slide begun passed held (start ++ frames_of items) p.own f held' (p.fits i) (later i) grows);
+          (Fits-frame vertex size slide begun passed held (start ++ frames_of items) p.own f held' (p.fits i) (later i) grows grows_at);
       kept = order;
     }
 

@@ -27,7 +27,7 @@ use Rattle.jet_items.proofs.Totaling.{both_none, total-append}
 use Rattle.jet_window.specs.FrameTables.{Table, Ordered, IsKept, held_in, with_acc, joined_in}
 use Rattle.jet_window.specs.Slides.{Pair, joined_pairs}
 use Rattle.jet_window.specs.Tables.{Place, place_cmp}
-use Rattle.jet_window.specs.inner.Reached.{SlidesByKey, Tracks, Enters, EnteredUntil, JoinedByKey, pair_of, pairs_of, pairs_at, pairs_or_none, is_up_to, bound_behind}
+use Rattle.jet_window.specs.inner.Reached.{SlidesByKey, NoneEmpty, Gains, Loses, Tracks, Enters, EnteredUntil, JoinedByKey, pair_of, pairs_of, pairs_at, pairs_or_none, is_up_to, bound_behind}
 use Rattle.jet_window.specs.inner.WindowOf.{WindowOf, KeysRise}
 use Rattle.jet_window.proofs.Ending.{place_less}
 use Rattle.jet_window.proofs.Fitting.{share_none}
@@ -77,7 +77,7 @@ none_up (f ∷ fs) = (refl, none_up fs)
 
 -- ---- nothing has entered
 pub none_entered : (held : Table) (slides : SlidesByKey) → slides ≡ [] → Tracks None held slides
-none_entered held slides none = record { front = []; back = held; entered = record { split = refl; upto = tt; behind = none_up held; pairs = λ key. ap (λ (s : SlidesByKey). pairs_at s key) none } }
+none_entered held slides none = record { front = []; back = held; entered = record { split = refl; upto = tt; behind = none_up held; pairs = λ key. ap (λ (s : SlidesByKey). pairs_at s key) none; filled = subst NoneEmpty (sym none) (λ key h. absurd (cc)) } }
 
 -- ---- a frame is kept behind the place
 insert_behind : (k : Place) (v : AccValue) (front back : Table) → Each (λ (f : Place × AccValue). place_cmp k f.0 ≡ Greater) front → insert_entry place_cmp (front ++ back) k v ≡ front ++ insert_entry place_cmp back k v
@@ -100,6 +100,7 @@ kept_behind reached k a held new slides is later t =
         upto = h.upto;
         behind = each_insert place_cmp place_total place_equal (λ (z : Place). is_up_to reached z ≡ false) k v t.back h.behind later;
         pairs = h.pairs;
+        filled = h.filled;
       };
     }
 
@@ -112,7 +113,7 @@ cons_same : (f g : Place × AccValue) (fs gs : Table) → f ∷ fs ≡ g ∷ gs 
 cons_same f g fs gs h = (cc, cc)
 
 pub first_left : (reached : Option Place) (f : Place × AccValue) (held rest : Table) (slides new : SlidesByKey) → held ≡ f ∷ rest → is_up_to reached f.0 ≡ true
-    → ((k : List ℕ) → pairs_at new k ≡ drop (cond (bytes_eq f.0.1 k) 1 0) (pairs_at slides k)) → Tracks reached held slides → Tracks reached rest new
+    → Loses slides new f.0.1 → Tracks reached held slides → Tracks reached rest new
 first_left reached f held rest slides new is up less h = by h.front h.back (sym is ∙ h.entered.split) h.entered.upto h.entered.behind h.entered.pairs
   where
     by : (front back : Table) → f ∷ rest ≡ front ++ back → Each (λ (g : Place × AccValue). is_up_to reached g.0 ≡ true) front → Each (λ (g : Place × AccValue). is_up_to reached g.0 ≡ false) back
@@ -131,7 +132,8 @@ first_left reached f held rest slides new is up less h = by h.front h.back (sym 
             split = same.1;
             upto = u.1;
             behind = b;
-            pairs = λ k. less k ∙ (ap (drop (cond (bytes_eq f.0.1 k) 1 0)) (p k ∙ ap (λ (x : Place × AccValue). pair_of k x ++ pairs_of k gs) same.0) ∙ drop_if (bytes_eq f.0.1 k) (f.0.0, f.1) (pairs_of k gs));
+            pairs = λ k. less.pairs k ∙ (ap (drop (cond (bytes_eq f.0.1 k) 1 0)) (p k ∙ ap (λ (x : Place × AccValue). pair_of k x ++ pairs_of k gs) same.0) ∙ drop_if (bytes_eq f.0.1 k) (f.0.0, f.1) (pairs_of k gs));
+            filled = less.filled h.entered.filled;
           };
         }
 
@@ -141,7 +143,7 @@ first_apart reached f held rest slides is not_up h = by h.front h.back (sym is �
     by : (front back : Table) → f ∷ rest ≡ front ++ back → Each (λ (g : Place × AccValue). is_up_to reached g.0 ≡ true) front → Each (λ (g : Place × AccValue). is_up_to reached g.0 ≡ false) back
         → ((k : List ℕ) → pairs_at slides k ≡ pairs_of k front) → Tracks reached rest slides
     by [] [] split u b p = absurd (cc)
-    by [] (g ∷ gs) split u b p = record { front = []; back = gs; entered = record { split = (cons_same f g rest gs split).1; upto = tt; behind = b.1; pairs = p } }
+    by [] (g ∷ gs) split u b p = record { front = []; back = gs; entered = record { split = (cons_same f g rest gs split).1; upto = tt; behind = b.1; pairs = p; filled = h.entered.filled } }
     by (g ∷ gs) back split u b p = absurd (unlike (sym (subst (λ (x : Place × AccValue). is_up_to reached x.0 ≡ true) (cons_same f g rest (gs ++ back) split).0 u.0) ∙ not_up))
       where
         unlike : true ≡ false → ⊥
@@ -177,7 +179,7 @@ le_itself : (p : Place) → is_le (place_cmp p p) ≡ true
 le_itself p = ap is_le (tied_itself place_total p)
 
 pub one_entered : (end : ℤ) (reached : Option Place) (f : Place × AccValue) (held left rest : Table) (slides new : SlidesByKey) → Ordered held → left ≡ f ∷ rest → f.0.0 ≤ℤ end
-    → ((k : List ℕ) → pairs_at new k ≡ pairs_at slides k ++ pair_of k f) → Enters end reached held slides left → Enters end (Some f.0) held new rest
+    → Gains slides new f → Enters end reached held slides left → Enters end (Some f.0) held new rest
 one_entered end reached f held left rest slides new order is within more h =
     let split : held ≡ h.front ++ f ∷ rest = h.entered.split ∙ ap (λ (t : Table). h.front ++ t) is in
     let placed : Ordered (h.front ++ f ∷ rest) = subst Ordered split order in
@@ -191,7 +193,8 @@ one_entered end reached f held left rest slides new order is within more h =
             (Each-more (λ (g : Place × AccValue). Each (λ (x : Place × AccValue). place_cmp g.0 x.0 ≡ Less) (f ∷ rest)) (λ (g : Place × AccValue). is_up_to (Some f.0) g.0 ≡ true) (λ g k. ap is_le k.0) h.front before)
             (le_itself f.0, tt);
         behind = Each-more (λ (g : Place × AccValue). place_cmp f.0 g.0 ≡ Less) (λ (g : Place × AccValue). is_up_to (Some f.0) g.0 ≡ false) (λ g k. ap is_le (greater_back f.0 g.0 k)) rest after.0;
-        pairs = λ k. more k ∙ (ap (λ (ps : List Pair). ps ++ pair_of k f) (h.entered.pairs k) ∙ (ap (λ (ps : List Pair). pairs_of k h.front ++ ps) (sym (append-nil (pair_of k f))) ∙ sym (flat_map-append (pair_of k) h.front (f ∷ []))));
+        pairs = λ k. more.pairs k ∙ (ap (λ (ps : List Pair). ps ++ pair_of k f) (h.entered.pairs k) ∙ (ap (λ (ps : List Pair). pairs_of k h.front ++ ps) (sym (append-nil (pair_of k f))) ∙ sym (flat_map-append (pair_of k) h.front (f ∷ []))));
+        filled = more.filled h.entered.filled;
       };
       low = Each-append (λ (g : Place × AccValue). g.0.0 ≤ℤ end) h.front (f ∷ []) h.low (within, tt);
     }
@@ -301,12 +304,12 @@ slide_left old new k put q = put q ∙ by (bytes_eq k q) refl
     by false is = refl
 
 -- a key without a slide has nothing to leave
-pub none_left : (slides : SlidesByKey) (k : List ℕ) → lookup (is_at (slice_cmp nat_cmp k)) slides ≡ None → (q : List ℕ) → pairs_at slides q ≡ drop (cond (bytes_eq k q) 1 0) (pairs_at slides q)
-none_left slides k none q = by (bytes_eq k q) refl
+pub none_left : (slides new : SlidesByKey) (k : List ℕ) → new ≡ slides → lookup (is_at (slice_cmp nat_cmp k)) slides ≡ None → Loses slides new k
+none_left slides new k same none = subst (λ (s : SlidesByKey). Loses slides s k) (sym same) (record { pairs = λ q. by q (bytes_eq k q) refl; filled = λ filled. filled })
   where
-    by : (b : Bool) → bytes_eq k q ≡ b → pairs_at slides q ≡ drop (cond b 1 0) (pairs_at slides q)
-    by true is = subst (λ (z : List ℕ). pairs_at slides z ≡ drop 1 (pairs_at slides z)) ((bytes_eq-Decides k q).0 is) (ap pairs_or_none none ∙ sym (ap (λ (o : Option (List Pair)). drop 1 (pairs_or_none o)) none))
-    by false is = refl
+    by : (q : List ℕ) (b : Bool) → bytes_eq k q ≡ b → pairs_at slides q ≡ drop (cond b 1 0) (pairs_at slides q)
+    by q true is = subst (λ (z : List ℕ). pairs_at slides z ≡ drop 1 (pairs_at slides z)) ((bytes_eq-Decides k q).0 is) (ap pairs_or_none none ∙ sym (ap (λ (o : Option (List Pair)). drop 1 (pairs_or_none o)) none))
+    by q false is = refl
 
 -- ---- rows by key
 abbrev pub KeysUp : List (List ℕ) → Type 0
@@ -402,27 +405,55 @@ share_skipped key rows seen k pairs is h =
     nothing false = refl
 
 -- ---- a slide that a key has, or had not
+one_filled : (old new : SlidesByKey) (k : List ℕ) (w : Option (List Pair)) → ((q : List ℕ) → lookup (is_at (slice_cmp nat_cmp q)) new ≡ cond (is_at (slice_cmp nat_cmp k) q) w (lookup (is_at (slice_cmp nat_cmp q)) old))
+    → (w ≡ Some [] → ⊥) → NoneEmpty old → NoneEmpty new
+one_filled old new k w put some filled q h = by (is_at (slice_cmp nat_cmp k) q) (sym (put q) ∙ h)
+  where
+    by : (b : Bool) → cond b w (lookup (is_at (slice_cmp nat_cmp q)) old) ≡ Some [] → ⊥
+    by true e = some e
+    by false e = filled q e
+
+not_none : (ps w : List Pair) (p : Pair) → w ≡ ps ++ p ∷ [] → Some w ≡ Some [] → ⊥
+not_none [] w p is e = absurd (cc)
+not_none (q ∷ qs) w p is e = absurd (cc)
+
 pub entered_there : (old new : SlidesByKey) (f : Place × AccValue) (pairs w : List Pair) → Some pairs ≡ lookup (is_at (slice_cmp nat_cmp f.0.1)) old → w ≡ pairs ++ (f.0.0, f.1) ∷ []
-    → ((q : List ℕ) → lookup (is_at (slice_cmp nat_cmp q)) new ≡ cond (is_at (slice_cmp nat_cmp f.0.1) q) (Some w) (lookup (is_at (slice_cmp nat_cmp q)) old)) → (q : List ℕ) → pairs_at new q ≡ pairs_at old q ++ pair_of q f
+    → ((q : List ℕ) → lookup (is_at (slice_cmp nat_cmp q)) new ≡ cond (is_at (slice_cmp nat_cmp f.0.1) q) (Some w) (lookup (is_at (slice_cmp nat_cmp q)) old)) → Gains old new f
 entered_there old new f pairs w there is put =
-    slide_entered old new f (λ q. slide_put old new f.0.1 (Some w) put q ∙ ap (λ (ps : List Pair). cond (bytes_eq f.0.1 q) ps (pairs_at old q)) (is ∙ ap (λ (ps : List Pair). ps ++ (f.0.0, f.1) ∷ []) (ap pairs_or_none there)))
+    record {
+      pairs = slide_entered old new f (λ q. slide_put old new f.0.1 (Some w) put q ∙ ap (λ (ps : List Pair). cond (bytes_eq f.0.1 q) ps (pairs_at old q)) (is ∙ ap (λ (ps : List Pair). ps ++ (f.0.0, f.1) ∷ []) (ap pairs_or_none there)));
+      filled = one_filled old new f.0.1 (Some w) put (not_none pairs w (f.0.0, f.1) is);
+    }
 
 pub entered_new : (old new : SlidesByKey) (f : Place × AccValue) (w : List Pair) → lookup (is_at (slice_cmp nat_cmp f.0.1)) old ≡ None → w ≡ (f.0.0, f.1) ∷ []
-    → ((q : List ℕ) → lookup (is_at (slice_cmp nat_cmp q)) new ≡ cond (is_at (slice_cmp nat_cmp f.0.1) q) (Some w) (lookup (is_at (slice_cmp nat_cmp q)) old)) → (q : List ℕ) → pairs_at new q ≡ pairs_at old q ++ pair_of q f
+    → ((q : List ℕ) → lookup (is_at (slice_cmp nat_cmp q)) new ≡ cond (is_at (slice_cmp nat_cmp f.0.1) q) (Some w) (lookup (is_at (slice_cmp nat_cmp q)) old)) → Gains old new f
 entered_new old new f w none is put =
-    slide_entered old new f (λ q. slide_put old new f.0.1 (Some w) put q ∙ ap (λ (ps : List Pair). cond (bytes_eq f.0.1 q) ps (pairs_at old q)) (is ∙ sym (ap (λ (o : Option (List Pair)). pairs_or_none o ++ (f.0.0, f.1) ∷ []) none)))
+    record {
+      pairs = slide_entered old new f (λ q. slide_put old new f.0.1 (Some w) put q ∙ ap (λ (ps : List Pair). cond (bytes_eq f.0.1 q) ps (pairs_at old q)) (is ∙ sym (ap (λ (o : Option (List Pair)). pairs_or_none o ++ (f.0.0, f.1) ∷ []) none)));
+      filled = one_filled old new f.0.1 (Some w) put (not_none [] w (f.0.0, f.1) is);
+    }
 
-pub left_there : (old new : SlidesByKey) (k : List ℕ) (pairs w : List Pair) → Some pairs ≡ lookup (is_at (slice_cmp nat_cmp k)) old → w ≡ drop 1 pairs
-    → ((q : List ℕ) → lookup (is_at (slice_cmp nat_cmp q)) new ≡ cond (is_at (slice_cmp nat_cmp k) q) (Some w) (lookup (is_at (slice_cmp nat_cmp q)) old)) → (q : List ℕ) → pairs_at new q ≡ drop (cond (bytes_eq k q) 1 0) (pairs_at old q)
-left_there old new k pairs w there is put =
-    slide_left old new k (λ q. slide_put old new k (Some w) put q ∙ ap (λ (ps : List Pair). cond (bytes_eq k q) ps (pairs_at old q)) (is ∙ ap (drop 1) (ap pairs_or_none there)))
+pub left_there : (old new : SlidesByKey) (k : List ℕ) (pairs w : List Pair) → Some pairs ≡ lookup (is_at (slice_cmp nat_cmp k)) old → w ≡ drop 1 pairs → (w ≡ [] → ⊥)
+    → ((q : List ℕ) → lookup (is_at (slice_cmp nat_cmp q)) new ≡ cond (is_at (slice_cmp nat_cmp k) q) (Some w) (lookup (is_at (slice_cmp nat_cmp q)) old)) → Loses old new k
+left_there old new k pairs w there is some put =
+    record {
+      pairs = slide_left old new k (λ q. slide_put old new k (Some w) put q ∙ ap (λ (ps : List Pair). cond (bytes_eq k q) ps (pairs_at old q)) (is ∙ ap (drop 1) (ap pairs_or_none there)));
+      filled = one_filled old new k (Some w) put (λ e. some (cc));
+    }
 
 pub left_empty : (old middle new : SlidesByKey) (k : List ℕ) (pairs w : List Pair) → Some pairs ≡ lookup (is_at (slice_cmp nat_cmp k)) old → w ≡ drop 1 pairs → w ≡ []
     → ((q : List ℕ) → lookup (is_at (slice_cmp nat_cmp q)) middle ≡ cond (is_at (slice_cmp nat_cmp k) q) (Some w) (lookup (is_at (slice_cmp nat_cmp q)) old))
-    → ((q : List ℕ) → lookup (is_at (slice_cmp nat_cmp q)) new ≡ cond (is_at (slice_cmp nat_cmp k) q) None (lookup (is_at (slice_cmp nat_cmp q)) middle)) → (q : List ℕ) → pairs_at new q ≡ drop (cond (bytes_eq k q) 1 0) (pairs_at old q)
+    → ((q : List ℕ) → lookup (is_at (slice_cmp nat_cmp q)) new ≡ cond (is_at (slice_cmp nat_cmp k) q) None (lookup (is_at (slice_cmp nat_cmp q)) middle)) → Loses old new k
 left_empty old middle new k pairs w there is empty put gone =
-    slide_left old new k (λ q. slide_put middle new k None gone q ∙ (ap (λ (ps : List Pair). cond (bytes_eq k q) [] ps) (slide_put old middle k (Some w) put q) ∙ by q (bytes_eq k q)))
+    record {
+      pairs = slide_left old new k (λ q. slide_put middle new k None gone q ∙ (ap (λ (ps : List Pair). cond (bytes_eq k q) [] ps) (slide_put old middle k (Some w) put q) ∙ by q (bytes_eq k q)));
+      filled = one_filled old new k None (λ q. gone q ∙ once q (is_at (slice_cmp nat_cmp k) q) (put q)) (λ e. absurd (cc));
+    }
   where
+    once : (q : List ℕ) (b : Bool) → lookup (is_at (slice_cmp nat_cmp q)) middle ≡ cond b (Some w) (lookup (is_at (slice_cmp nat_cmp q)) old) → cond b None (lookup (is_at (slice_cmp nat_cmp q)) middle) ≡ cond b None (lookup (is_at (slice_cmp nat_cmp q)) old)
+    once q true h = refl
+    once q false h = h
+
     by : (q : List ℕ) (b : Bool) → cond b [] (cond b w (pairs_at old q)) ≡ cond b (drop 1 (pairs_at old k)) (pairs_at old q)
     by q true = sym empty ∙ (is ∙ ap (drop 1) (ap pairs_or_none there))
     by q false = refl

@@ -1,8 +1,9 @@
 -- What a combine vertex stands for, and that each step and call keeps it.
 use Rattle.std.proofs.Common.{◌≡◌, ℕ, Bool, true, false, cond, ◌&&◌, ◌||◌, ℤ, ◌+ℤ◌, ◌-ℤ◌, ◌<ℤ◌, ◌≤ℤ◌, List, [], ◌∷◌, ◌++◌, Option, Some, None, refl, sym, ◌∙◌, ap, subst, arith, append-nil, append_assoc}
 use Rattle.std.specs.Prelude.{int_le, bytes_eq}
+use Rattle.std.specs.Ordering.{int_eq}
 use Rattle.std.proofs.lemmas.Int.{ints}
-use Rattle.jet_items.specs.Frames.{covers, frame_in}
+use Rattle.jet_items.specs.Frames.{covers, frame_at, frame_in}
 use Rattle.jet_items.specs.Kinds.{frames_of, marks_of}
 use Rattle.jet_items.specs.Order.{Each, SoundAfter, IsAbove}
 use Rattle.jet_items.specs.Ranges.{IsWithin, most_frame_end, most_row_end}
@@ -11,7 +12,6 @@ use Rattle.jet_items.specs.Values.{AccValue, FrameValue}
 use Rattle.jet_items.specs.declared.item.Item.{Item}
 use Rattle.jet_items.specs.declared.item.Item.TheVariants as item
 use Rattle.jet_items.proofs.Covering.{Decides-int_le, false_from}
-use Rattle.jet_items.proofs.Totaling.{both_none, both_comm, total-append}
 use Rattle.jet_items.proofs.Orders.{Each-more, Each-front, Each-back, Shadows-refl}
 use Rattle.jet_policy.specs.Policy.{IsPolicy}
 use Rattle.jet_boxes.specs.declared.port.Port.{Port}
@@ -19,12 +19,12 @@ use Rattle.jet_boxes.specs.Entry.{CallEntry, Given, MarkTold, QueueClosed, Finis
 use Rattle.jet_window.specs.CombineLaws.{no_pending, given_promised}
 use Rattle.jet_window.specs.CombineStands.{IsFrame, Start, Combine, CombineStands, HeldOpen, Marking, Finishing, Promises, PromisesAfter, Gave, PutsReady, pending}
 use Rattle.jet_window.specs.Combining.{Forgets, TakesUp, Clear, Passes, OpenAbove, TableOf}
-use Rattle.jet_window.specs.FrameTables.{Table, IsKept, held_in, joined_in}
+use Rattle.jet_window.specs.FrameTables.{Table, IsKept, held_at, held_in, joined_in}
 use Rattle.jet_window.specs.Later.{newly, later_of, later_due, newly_later}
 use Rattle.jet_window.specs.Passing.{from_last, items_push, marks_none, same_last, told_last, input_front, input_open, input_above, finished_same, given_same, closed_same, told_same, open_due_false, never_finished}
 use Rattle.jet_window.specs.Tables.{Place, place_cmp, is_multiple}
 use Rattle.jet_window.specs.Taken.{is_due, last_from, last_mark, due_after, InOpenWindow, StageInput}
-use Rattle.jet_window.proofs.Fitting.{Fits-forget, Fits-start, not_due_above, not_begun, not_covered}
+use Rattle.jet_window.proofs.Fitting.{Fits-forget, Fits-start, total-push, not_due_above, not_begun, not_covered}
 use Rattle.jet_window.proofs.Ending.{open_at}
 use Rattle.jet_window.proofs.Tabling.{place_total, place_equal, total-joined_in, ordered_insert, each_insert}
 use Rattle.jet_window.proofs.Promising.{weaker, Promises-up, Promises-pass, Promises-frame, Promises-mark}
@@ -153,16 +153,18 @@ given_apart taken port q f size begun last is i d new =
     due_of false y h = h
 
 pub stands_frame : (s : Start) (last : Option ℤ) (p : Combine) (taken : List CallEntry) (given : List Item) (port : Port) (q : ℕ) (f : FrameValue) (held' : Table)
-    → ((d : ℤ) (key : List ℕ) → IsKept p.held → is_multiple p.slide d ≡ true → is_due s.begun d ≡ false → total (held_in p.size d key) held' ≡ both (frame_in p.size d key f) (total (held_in p.size d key) p.held)) → (IsKept p.held → IsKept held')
+    → ((d : ℤ) (key : List ℕ) → IsKept p.held → is_multiple p.slide d ≡ true → is_due s.begun d ≡ false → total (held_in p.size d key) held' ≡ both (frame_in p.size d key f) (total (held_in p.size d key) p.held))
+    → ((d : ℤ) (key : List ℕ) → IsKept p.held → InOpenWindow p.size p.slide (is_due s.begun) d → total (held_at d key) held' ≡ both (frame_at d key f) (total (held_at d key) p.held)) → (IsKept p.held → IsKept held')
     → ((due : ℤ → Bool) → ((e : ℤ) → is_due s.begun e ≡ false → f.end ≤ℤ e → due e ≡ false) → Each (λ (g : Place × AccValue). InOpenWindow p.size p.slide due g.0.0) p.held → Each (λ (g : Place × AccValue). InOpenWindow p.size p.slide due g.0.0) held')
     → CombineStands s last p taken given → CombineStands s last (record p { held = held' }) (taken ++ Given port q (item.Frame f) ∷ []) (given ++ [])
-stands_frame s last p taken given port q f held' grows kept adds h =
+stands_frame s last p taken given port q f held' grows grows_at kept adds h =
     let e : CallEntry = Given port q (item.Frame f) in
     let old : Promises p.vertex p.size p.slide s.begun s.frames p.passed p.held given (StageInput taken) (items_of taken) = given_promised s last p taken given h in
     let later : StageInput (taken ++ e ∷ []) → (d : ℤ) → is_multiple p.slide d ≡ true → newly s.begun (is_due p.passed) d ≡ true → covers p.size d f.end ≡ false =
     λ i d m new. given_apart taken port q f p.size s.begun last h.told i d (subst (λ (o : Option ℤ). newly s.begun (is_due o) d ≡ true) (h.tie (input_open taken e i)) new) in
     let new : Promises p.vertex p.size p.slide s.begun s.frames p.passed held' given (StageInput (taken ++ e ∷ [])) (items_of taken ++ item.Frame f ∷ []) =
-    Promises-frame p.vertex p.size p.slide s.begun s.frames p.passed p.held given (StageInput (taken ++ e ∷ [])) (items_of taken) f held' later (λ d key m b. grows d key old.kept m (not_begun s.begun p.passed d old.begins b)) (kept old.kept) (weaker (input_front taken e) old) in
+    Promises-frame p.vertex p.size p.slide s.begun s.frames p.passed p.held given (StageInput (taken ++ e ∷ [])) (items_of taken) f held' later (λ d key m b. grows d key old.kept m (not_begun s.begun p.passed d old.begins b))
+    (λ d key w. grows_at d key old.kept (w.0, w.1, w.2, not_begun s.begun p.passed w.0 old.begins w.3)) (kept old.kept) (weaker (input_front taken e) old) in
     let moved : Promises p.vertex p.size p.slide s.begun s.frames p.passed held' given (StageInput (taken ++ e ∷ [])) (items_of (taken ++ e ∷ [])) =
     subst (λ (xs : List Item). Promises p.vertex p.size p.slide s.begun s.frames p.passed held' given (StageInput (taken ++ e ∷ [])) xs) (sym (items_push taken e)) new in
     let still : (d : ℤ) → due_after (taken ++ e ∷ []) d ≡ due_after taken d = λ d. given_same taken port q (item.Frame f) d refl in
@@ -291,7 +293,8 @@ stands_new s p is held from_start put range =
             rows = record { weighs = λ w. refl };
             alone = λ none. refl;
             begins = record { stays = λ d b. b };
-            fits = λ i. Fits-start p.vertex p.size p.slide s.begun p.held (s.frames ++ []) (λ e key. held.joins p.size e key ∙ ap (total (frame_in p.size e key)) (sym (append-nil s.frames)));
+            fits = λ i. Fits-start p.vertex p.size p.slide s.begun p.held (s.frames ++ []) (λ e key. held.joins p.size e key ∙ ap (total (frame_in p.size e key)) (sym (append-nil s.frames)))
+                (λ end key. held.joins_at end key ∙ ap (total (frame_at end key)) (sym (append-nil s.frames)));
             kept = held.kept;
           }));
       range = range;
@@ -311,13 +314,15 @@ stands_new s p is held from_start put range =
 
 -- no frames bring nothing
 pub table_none : (frames : List FrameValue) (held : Table) → frames ≡ [] → held ≡ [] → TableOf frames held
-table_none frames held none empty = subst (λ (fs : List FrameValue). TableOf fs held) (sym none) (subst (TableOf []) (sym empty) (record { joins = λ size e key. refl; opens = λ size slide due h. tt; kept = record { ordered = tt; ranges = tt } }))
+table_none frames held none empty = subst (λ (fs : List FrameValue). TableOf fs held) (sym none) (subst (TableOf []) (sym empty) (record { joins = λ size e key. refl; joins_at = λ end key. refl; opens = λ size slide due h. tt; kept = record { ordered = tt; ranges = tt } }))
 
 -- one frame more is joined in
 pub table_more : (frames : List FrameValue) (held : Table) (f : FrameValue) → IsWithin most_frame_end f.end → TableOf frames held → TableOf (frames ++ f ∷ []) (joined_in held (f.end, f.key) f.acc)
 table_more frames held f range h = record {
   joins = λ size e key. total-joined_in (λ z. bytes_eq z.1 key && covers size e z.0) (f.end, f.key) f.acc held h.kept.ordered
-      ∙ (ap (both (frame_in size e key f)) (h.joins size e key) ∙ sym (total-append (frame_in size e key) frames (f ∷ []) ∙ (ap (both (total (frame_in size e key) frames)) (both_none (frame_in size e key f)) ∙ both_comm (total (frame_in size e key) frames) (frame_in size e key f))));
+      ∙ (ap (both (frame_in size e key f)) (h.joins size e key) ∙ sym (total-push (frame_in size e key) frames f));
+  joins_at = λ end key. total-joined_in (λ z. bytes_eq z.1 key && int_eq z.0 end) (f.end, f.key) f.acc held h.kept.ordered
+      ∙ (ap (both (frame_at end key f)) (h.joins_at end key) ∙ sym (total-push (frame_at end key) frames f));
   opens = λ size slide due each. each_insert place_cmp place_total place_equal (λ (z : Place). InOpenWindow size slide due z.0) (f.end, f.key) _ held
       (h.opens size slide due (Each-front (λ g. InOpenWindow size slide due g.end) frames (f ∷ []) each)) (Each-back (λ g. InOpenWindow size slide due g.end) frames (f ∷ []) each).0;
   kept = record {

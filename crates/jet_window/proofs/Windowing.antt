@@ -13,14 +13,11 @@ use Rattle.jet_items.specs.Totals.{both, total}
 use Rattle.jet_items.specs.Frames.{only, covers}
 use Rattle.jet_items.specs.Order.{Each}
 use Rattle.jet_items.proofs.Covering.{false_from, Decides-covers}
-use Rattle.jet_items.proofs.Totaling.{both_none, both_comm, total-append}
-use Rattle.jet_window.specs.Tables.{Place}
-use Rattle.jet_window.specs.FrameTables.{Table, held_in, IsKept}
+use Rattle.jet_window.specs.FrameTables.{Table, IsKept}
 use Rattle.jet_window.specs.WindowRows.{as_list}
 use Rattle.jet_window.specs.Combining.{accs_at, TakesUp}
-use Rattle.jet_window.specs.inner.WindowOf.{key_joined, KeysRise, WindowOf}
+use Rattle.jet_window.specs.inner.WindowOf.{KeysRise, WindowOf}
 use Rattle.jet_window.specs.inner.NextEnds.{IsNextEnd}
-use Rattle.jet_window.proofs.Tabling.{total-insert, order_insert}
 
 pub key_equal : (x y : List ℕ) → slice_cmp nat_cmp x y ≡ Equal → x ≡ y
 key_equal x y h = (bytes_eq-Decides x y).0 (sym (is_eq-slice_cmp x y) ∙ ap is_eq h)
@@ -52,39 +49,15 @@ takes_up size slide passed held e ready next rows kept = record {
   ready_is = λ key. accs_once key ready rows.rising ∙ ap as_list (rows.each key);
   rising = rows.rising;
   leaves = λ d key m lt. refl;
+  leaves_at = λ d key w. refl;
   kept = kept;
 }
 
--- ---- a frame is joined in, or passed over
--- the rows of some first frames
-pub window_none : (size e : ℤ) → WindowOf size e [] []
-window_none size e = record { each = λ key. refl; rising = tt }
-
+-- ---- what a window covers, and what it does not
 pub both_true : (b c : Bool) (a : AccValue) → c ≡ true → only b a ≡ only (b && c) a
 both_true true true a h = refl
 both_true true false a h = absurd (cc)
 both_true false c a h = refl
-
-share_none : (b c : Bool) (a : AccValue) → c ≡ false → only (b && c) a ≡ None
-share_none true true a h = absurd (cc)
-share_none true false a h = refl
-share_none false c a h = refl
-
-push : (size e : ℤ) (key : List ℕ) (front : Table) (f : Place × AccValue) → total (held_in size e key) (front ++ f ∷ []) ≡ both (held_in size e key f) (total (held_in size e key) front)
-push size e key front f = total-append (held_in size e key) front (f ∷ []) ∙ (ap (both (total (held_in size e key) front)) (both_none (held_in size e key f)) ∙ both_comm (total (held_in size e key) front) (held_in size e key f))
-
-pub window_in : (size e : ℤ) (front : Table) (f : Place × AccValue) (rows : List (List ℕ × AccValue)) → covers size e f.0.0 ≡ true → WindowOf size e front rows → WindowOf size e (front ++ f ∷ []) (key_joined rows f.0.1 f.1)
-window_in size e front f rows c w = record {
-  each = λ key. total-insert (slice_cmp nat_cmp) nat_list_cmp_total key_equal (λ k. bytes_eq k key) f.0.1 f.1 rows w.rising
-      ∙ (ap (both (only (bytes_eq f.0.1 key) f.1)) (w.each key) ∙ (ap (λ x. both x (total (held_in size e key) front)) (both_true (bytes_eq f.0.1 key) (covers size e f.0.0) f.1 c) ∙ sym (push size e key front f)));
-  rising = order_insert (slice_cmp nat_cmp) nat_list_cmp_total key_equal f.0.1 _ rows w.rising;
-}
-
-pub window_out : (size e : ℤ) (front : Table) (f : Place × AccValue) (rows : List (List ℕ × AccValue)) → covers size e f.0.0 ≡ false → WindowOf size e front rows → WindowOf size e (front ++ f ∷ []) rows
-window_out size e front f rows c w = record {
-  each = λ key. w.each key ∙ (ap (λ x. both x (total (held_in size e key) front)) (sym (share_none (bytes_eq f.0.1 key) (covers size e f.0.0) f.1 c)) ∙ sym (push size e key front f));
-  rising = w.rising;
-}
 
 pub map_push : {X Y : Type 0} (f : X → Y) (xs : List X) (x : X) → map f (xs ++ x ∷ []) ≡ map f xs ++ f x ∷ []
 map_push f [] x = refl
@@ -92,9 +65,6 @@ map_push f (y ∷ xs) x = ap (λ zs. f y ∷ zs) (map_push f xs x)
 
 pub covers_true : (size e z : ℤ) → (e -ℤ size) <ℤ z → z ≤ℤ e → covers size e z ≡ true
 covers_true size e z h k = (Decides-covers size e z).1 (h, k)
-
-pub covers_low : (size e z : ℤ) → z ≤ℤ (e -ℤ size) → covers size e z ≡ false
-covers_low size e z h = false_from (covers size e z) (Decides-covers size e z) (λ c. let p = c.0 in absurd (omega (arith, ints)))
 
 pub covers_high : (size e z : ℤ) → e <ℤ z → covers size e z ≡ false
 covers_high size e z h = false_from (covers size e z) (Decides-covers size e z) (λ c. let q = c.1 in absurd (omega (arith, ints)))

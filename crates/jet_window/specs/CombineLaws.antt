@@ -5,7 +5,7 @@ use Rattle.std.specs.List.{flat_map}
 use Rattle.std.specs.declared.cmp.Ordering.TheVariants.{Less}
 use Rattle.std.proofs.lemmas.Int.{ints}
 use Rattle.std.proofs.lemmas.List.Concat.{flat_map-append}
-use Rattle.jet_items.specs.Frames.{frame_in}
+use Rattle.jet_items.specs.Frames.{frame_at, frame_in}
 use Rattle.jet_items.specs.Kinds.{frames_of, marks_of, as_mark}
 use Rattle.jet_items.specs.Order.{Each, EachPair, Sound, SoundAfter, LateIsBehind, Closed as ClosedItems, ClosedAfter}
 use Rattle.jet_items.specs.Totals.{total}
@@ -18,7 +18,7 @@ use Rattle.jet_items.proofs.Orders.{Each-front, EachPair-front}
 use Rattle.jet_boxes.specs.Entry.{CallEntry, Given, MarkTold, QueueClosed, Finish, items_of, NotDone}
 use Rattle.jet_window.specs.CombineStands.{Combine, Start, CombineBag, CombineBagAmid, CombineStands, CombineAmid, HeldOpen, Promises, PromisesAfter, pending, pending_rows}
 use Rattle.jet_window.specs.Combining.{Passes, row_of}
-use Rattle.jet_window.specs.FrameTables.{Table, Ordered, FramesRise, frame_of, held_in}
+use Rattle.jet_window.specs.FrameTables.{Table, Ordered, FramesRise, frame_of, held_at, held_in}
 use Rattle.jet_window.specs.Later.{newly, later_of, later_due, newly_later}
 use Rattle.jet_window.specs.Passing.{from_last, sound_front, closed_front, input_front, input_open, not_finished, told_above, told_due, finish_due, open_due, due_next}
 use Rattle.jet_window.specs.Tables.{Place, place_cmp, is_multiple}
@@ -131,6 +131,9 @@ rows_if s last p taken given h k false is =
     }
 
 -- ---- what is held
+held_total_at : (vertex : ℕ) (end : ℤ) (key : List ℕ) (held : Table) → total (frame_at end key) (map (frame_of vertex) held) ≡ total (held_at end key) held
+held_total_at vertex end key held = total-map (frame_at end key) (frame_of vertex) held
+
 held_total : (vertex : ℕ) (size e : ℤ) (key : List ℕ) (held : Table) → total (frame_in size e key) (map (frame_of vertex) held) ≡ total (held_in size e key) held
 held_total vertex size e key held = total-map (frame_in size e key) (frame_of vertex) held
 
@@ -189,6 +192,7 @@ combine_bag s last p taken given h =
       alone = g.alone;
       rows = λ i. rows_if s last p taken given h i (is_finished taken) refl;
       held_is = λ i e key m d. held_total p.vertex p.size e key p.held ∙ (g.fits i).held_is e key m (not_passed s last p taken given h e d);
+      held_at = λ i end key w. held_total_at p.vertex end key p.held ∙ (g.fits i).held_at_is end key (w.0, w.1, w.2, not_passed s last p taken given h w.0 w.3);
       held_open = λ grid i. open_frames (InOpenWindow p.size p.slide (λ e. is_due s.begun e || due_after taken e)) p.vertex p.held (h.held_open grid i);
       held_rising = frames_rise p.vertex p.held g.kept.ordered;
       held_vertices = frames_own p.vertex p.held;
@@ -238,6 +242,7 @@ combine_bag_amid s last p taken entry given h =
         alone = g.alone;
         rows = λ i. (g.fits (input_front taken entry i)).rows_are;
         held_is = λ i e key m d. held_total p.vertex p.size e key p.held ∙ (g.fits (input_front taken entry i)).held_is e key m (neither (is_due s.begun e) (is_due p.passed e) d).1;
+        held_at = λ i end key w. held_total_at p.vertex end key p.held ∙ (g.fits (input_front taken entry i)).held_at_is end key (w.0, w.1, w.2, (neither (is_due s.begun w.0) (is_due p.passed w.0) w.3).1);
         held_open = λ grid i. open_frames (InOpenWindow p.size p.slide (λ e. is_due s.begun e || due_after taken e)) p.vertex p.held (amid_open s last p taken entry given h grid (input_front taken entry i));
         held_rising = frames_rise p.vertex p.held g.kept.ordered;
         held_vertices = frames_own p.vertex p.held;

@@ -4,7 +4,7 @@ use Rattle.jet_items.specs.Bag.{SameBag}
 use Rattle.jet_items.specs.Kinds.{events_of, sides_of, frames_of, rows_of, lates_of, marks_of}
 use Rattle.jet_items.specs.Order.{Each, EachPair, SoundAfter, LateIsBehind, ClosedAfter}
 use Rattle.jet_items.specs.Ranges.{IsWithin, most_row_end}
-use Rattle.jet_items.specs.Frames.{frame_in}
+use Rattle.jet_items.specs.Frames.{frame_at, frame_in}
 use Rattle.jet_items.specs.Totals.{total}
 use Rattle.jet_items.specs.Values.{AccValue, FrameValue, RowValue}
 use Rattle.jet_items.specs.declared.item.Item.{Item}
@@ -38,6 +38,8 @@ pub record CombineBag (vertex : ℕ) (size slide : ℤ) (begun last : Option ℤ
   pub rows : input → RowsAre vertex size slide (newly begun due) (start ++ frames_of (items_of taken)) own
   -- of each other window it holds what these frames join to
   pub held_is : input → (e : ℤ) (key : List ℕ) → is_multiple slide e ≡ true → (is_due begun e || due e) ≡ false → total (frame_in size e key) held ≡ total (frame_in size e key) (start ++ frames_of (items_of taken))
+  -- and of each end in such a window, and each key, what the frames there join to
+  pub held_at : input → (end : ℤ) (key : List ℕ) → InOpenWindow size slide (λ e. is_due begun e || due e) end → total (frame_at end key) held ≡ total (frame_at end key) (start ++ frames_of (items_of taken))
   -- a frame is forgotten once its last window is closed: held are only frames of open windows
   pub held_open : IsPolicy size slide → input → Each (λ f. InOpenWindow size slide (λ e. is_due begun e || due_after taken e) f.end) held
   -- it is one for each end and key, by end, then key

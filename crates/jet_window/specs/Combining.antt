@@ -1,14 +1,14 @@
 -- What a combine vertex holds, against the frames that it took and the rows that it gave.
-use Rattle.std.specs.Prelude.{◌≡◌, ℕ, Bool, true, false, ℤ, ◌<ℤ◌, ◌≤ℤ◌, ◌+ℤ◌, ◌-ℤ◌, int_le, List, ◌++◌, Option, None, bytes_eq}
+use Rattle.std.specs.Prelude.{◌≡◌, ℕ, Bool, true, false, ℤ, ◌<ℤ◌, ◌≤ℤ◌, ◌+ℤ◌, ◌-ℤ◌, int_le, List, ◌++◌, Option, Some, None, bytes_eq}
 use Rattle.std.specs.List.{flat_map}
 use Rattle.std.specs.Ordering.{nat_cmp}
 use Rattle.std.specs.Cmp.Lexicographic.{slice_cmp}
 use Rattle.std.specs.declared.cmp.Ordering.TheVariants.{Less}
-use Rattle.jet_items.specs.Frames.{only, covers, frame_in}
+use Rattle.jet_items.specs.Frames.{only, covers, frame_at, frame_in}
 use Rattle.jet_items.specs.Order.{Each, EachPair}
 use Rattle.jet_items.specs.Totals.{total}
 use Rattle.jet_items.specs.Values.{AccValue, FrameValue, RowValue}
-use Rattle.jet_window.specs.FrameTables.{Table, IsKept, held_in}
+use Rattle.jet_window.specs.FrameTables.{Table, IsKept, held_at, held_in}
 use Rattle.jet_window.specs.Later.{newly}
 use Rattle.jet_window.specs.Tables.{Place, is_multiple}
 use Rattle.jet_window.specs.Taken.{is_due, InOpenWindow}
@@ -28,6 +28,7 @@ pub record Passes (passed next : Option ℤ) : Type 0 where
 -- the rows are those of the windows that passed after the mark that a vertex began with, and the held frames are enough for the others
 pub record Fits (vertex : ℕ) (size slide : ℤ) (begun passed : Option ℤ) (held : Table) (frames : List FrameValue) (rows : List RowValue) : Type 0 where
   pub held_is : (e : ℤ) (key : List ℕ) → is_multiple slide e ≡ true → is_due passed e ≡ false → total (held_in size e key) held ≡ total (frame_in size e key) frames
+  pub held_at_is : (end : ℤ) (key : List ℕ) → InOpenWindow size slide (is_due passed) end → total (held_at end key) held ≡ total (frame_at end key) frames
   pub rows_are : RowsAre vertex size slide (newly begun (is_due passed)) frames rows
   pub within : Each (λ r. is_due passed r.end ≡ true) rows
 
@@ -39,6 +40,7 @@ pub record TakesUp (size slide : ℤ) (passed : Option ℤ) (held : Table) (e : 
   pub ready_is : (key : List ℕ) → accs_at key ready ≡ as_list (total (held_in size e key) held)
   pub rising : EachPair (λ (a b : List ℕ × AccValue). slice_cmp nat_cmp a.0 b.0 ≡ Less) ready
   pub leaves : (d : ℤ) (key : List ℕ) → is_multiple slide d ≡ true → e <ℤ d → total (held_in size d key) rest ≡ total (held_in size d key) held
+  pub leaves_at : (end : ℤ) (key : List ℕ) → InOpenWindow size slide (is_due (Some e)) end → total (held_at end key) rest ≡ total (held_at end key) held
   pub kept : IsKept rest
 
 -- no window up to t is left that has a frame
@@ -56,6 +58,7 @@ OpenAbove size slide t held = Each (λ (f : Place × AccValue). InOpenWindow siz
 -- what is left brings the same to every window that is still open
 pub record Forgets (size slide : ℤ) (passed : Option ℤ) (held rest : Table) : Type 0 where
   pub leaves : (d : ℤ) (key : List ℕ) → is_multiple slide d ≡ true → is_due passed d ≡ false → total (held_in size d key) rest ≡ total (held_in size d key) held
+  pub leaves_at : (end : ℤ) (key : List ℕ) → InOpenWindow size slide (is_due passed) end → total (held_at end key) rest ≡ total (held_at end key) held
   pub kept : IsKept held → IsKept rest
   -- what is forgotten stood first
   pub first : Table
@@ -72,5 +75,6 @@ pub record MayBegin (vertex : ℕ) (size slide : ℤ) (begun : Option ℤ) (fram
 -- the table has of these frames what they join to, and no other ends
 pub record TableOf (frames : List FrameValue) (held : Table) : Type 0 where
   pub joins : (size e : ℤ) (key : List ℕ) → total (held_in size e key) held ≡ total (frame_in size e key) frames
+  pub joins_at : (end : ℤ) (key : List ℕ) → total (held_at end key) held ≡ total (frame_at end key) frames
   pub opens : (size slide : ℤ) (due : ℤ → Bool) → Each (λ f. InOpenWindow size slide due f.end) frames → Each (λ (f : Place × AccValue). InOpenWindow size slide due f.0.0) held
   pub kept : IsKept held

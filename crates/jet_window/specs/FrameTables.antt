@@ -4,6 +4,7 @@ use Rattle.jet_items.specs.Values.{AccValue, FrameValue}
 use Rattle.std.specs.declared.cmp.Ordering.TheVariants.{Less}
 use Rattle.std.specs.Map.{lookup}
 use Rattle.std.specs.BTreeMap.{insert_entry, is_at}
+use Rattle.std.specs.Ordering.{int_eq}
 use Rattle.jet_items.specs.Totals.{joined}
 use Rattle.jet_items.specs.Frames.{only, covers}
 use Rattle.jet_items.specs.Order.{Each, EachPair}
@@ -21,6 +22,10 @@ frame_of vertex f = record { vertex = vertex; end = f.0.0; key = f.0.1; acc = f.
 -- what a held frame brings to a window and a key
 abbrev pub held_in : ℤ → ℤ → List ℕ → Place × AccValue → Option AccValue
 held_in size e key f = only (bytes_eq f.0.1 key && covers size e f.0.0) f.1
+
+-- what a held frame brings to an end and a key
+abbrev pub held_at : ℤ → List ℕ → Place × AccValue → Option AccValue
+held_at end key f = only (bytes_eq f.0.1 key && int_eq f.0.0 end) f.1
 
 -- frames rise by end, then key
 abbrev pub FramesRise : FrameValue → FrameValue → Type 0

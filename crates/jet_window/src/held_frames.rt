@@ -4,7 +4,7 @@ ghost use Rattle.std.specs.Option.{option_map};
 ghost use Rattle.jet_items.specs.Order.{Each};
 ghost use Rattle.jet_items.specs.Ranges.{IsWithin, most_frame_end};
 ghost use Rattle.jet_window.specs.FrameTables.{Table, IsKept, frame_of, joined_in};
-ghost use Rattle.jet_window.specs.inner.Reached.{Tracks, JoinedByKey, is_up_to, pairs_at, pair_of};
+ghost use Rattle.jet_window.specs.inner.Reached.{Tracks, Gains, Loses, JoinedByKey, is_up_to, pairs_at};
 ghost use Rattle.jet_window.specs.inner.WindowOf.{WindowOf};
 
 use crate::open_frames::OpenFrames;
@@ -157,7 +157,7 @@ pub(crate) fn enter(
     acc: &Acc,
 ) -> Result<(), NoMemory>
     requires { Each (λ p. p.0 <ℤ place.now.0) (pairs_at slides.old.entries place.now.1) }
-    ensures { OnOk result ((key : List ℕ) → pairs_at slides.new.entries key ≡ pairs_at slides.old.entries key ++ pair_of key (place.now, acc.now)) }
+    ensures { OnOk result (Gains slides.old.entries slides.new.entries (place.now, acc.now)) }
 {
     if let Some(slide) = slides.get_mut(&place.1) {
         slide.enter(place.0, *acc)?;
@@ -171,7 +171,7 @@ pub(crate) fn enter(
 
 // Lets the first frame of a key leave its slide, and the slide go where it was the only one.
 fn leave(slides: &mut BTreeMap<Key, Slide>, key: &Key)
-    ensures { (k : List ℕ) → pairs_at slides.new.entries k ≡ drop (cond (bytes_eq key.now k) 1 0) (pairs_at slides.old.entries k) }
+    ensures { Loses slides.old.entries slides.new.entries key.now }
 {
     if let Some(slide) = slides.get_mut(key) {
         slide.leave_first();

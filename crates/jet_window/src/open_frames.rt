@@ -11,6 +11,7 @@ use crate::slide::Slide;
 use jet_items::{Acc, Frame, Key, NoMemory};
 use std::alloc::Global;
 use std::collections::BTreeMap;
+use std::collections::btree_map::Entry;
 use std::marker::Model;
 use std::ops::Bound;
 
@@ -41,23 +42,14 @@ impl OpenFrames {
         }
     }
 
-    // Joins an accumulator into that of an end and a key, in place where there is one.
+    // Joins an accumulator into that of an end and a key.
     pub(crate) fn keep(&mut self, end: i64, key: &Key, acc: &Acc) -> Result<(), NoMemory>
         requires { IsWithin most_frame_end end }
         ensures ok { OnOk result (self.new ≡ joined_in self.old (end, key.now) acc.now) }
         ensures err { OnErr result (self.new ≡ self.old) }
     {
-        let place = (end, *key);
-        match self.accs.get_mut(&place) {
-            Some(held) => {
-                *held = held.join(acc);
-                Ok(())
-            }
-            None => {
-                self.accs.insert(place, *acc)?;
-                Ok(())
-            }
-        }
+        add(&mut self.accs, (end, *key), acc)?;
+        Ok(())
     }
 
     // The first frame and key, as a frame of this vertex, where it ends at most at `t`.
@@ -146,4 +138,21 @@ fn behind(reached: &Option<(i64, Key)>) -> Bound<(i64, Key)>
         None => Bound::Unbounded,
         Some(place) => Bound::Excluded(*place),
     }
+}
+
+// Joins an accumulator into that of a place, in place where there is one.
+fn add(accs: &mut BTreeMap<(i64, Key), Acc>, place: (i64, Key), acc: &Acc) -> Result<(), NoMemory>
+    ensures ok { OnOk result (accs.new.entries ≡ joined_in accs.old.entries place acc.now) }
+    ensures err { OnErr result (accs.new.entries ≡ accs.old.entries) }
+{
+    match accs.entry(place)? {
+        Entry::Occupied(entry) => {
+            let held = entry.into_mut();
+            *held = held.join(acc);
+        }
+        Entry::Vacant(entry) => {
+            let _ = entry.insert(*acc);
+        }
+    }
+    Ok(())
 }

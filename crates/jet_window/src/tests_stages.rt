@@ -6,7 +6,7 @@ ghost use Rattle.jet_window.specs.Driven.{IsReady};
 use super::*;
 use crate::driven::tell;
 use jet_boxes::{Outbox, Processor};
-use jet_items::{Acc, Event, Frame, Item, Key, Mark, partition_of};
+use jet_items::{Acc, Event, Frame, Item, Key, Mark, Row, partition_of};
 use jet_policy::WinPolicy;
 use std::alloc::Global;
 use std::test::Fail;
@@ -126,6 +126,57 @@ fn rows_are_put_by_marks_and_at_the_end(rt: HostRuntime) -> Result<(), Fail> {
     let given = given(rt.alloc(), vertex, &told)?;
     let want = [('r', 10, 1), ('m', 10, 0), ('r', 15, 3), ('r', 20, 2)];
     assert_eq!(rt; all_shown(rt.alloc(), &given)?.as_slice(), want.as_slice());
+    Ok(())
+}
+
+// The end of a row, the last byte of its key, and its count, sum, least and greatest value.
+type Known = ((i64, u8), (u64, i128, i64, i64));
+
+fn known(row: &Row) -> Known {
+    let key = row.key.bytes().last().copied().unwrap_or(0);
+    let acc = row.acc;
+    ((row.end, key), (acc.count, acc.sum, acc.min, acc.max))
+}
+
+fn known_rows(alloc: Global, items: &[Item]) -> Result<Vec<Known>, Fail> {
+    let mut rows = Vec::new(alloc);
+    for item in items {
+        if let Item::Row(row) = item {
+            rows.push(known(row))?;
+        }
+    }
+    Ok(rows)
+}
+
+#[test]
+fn the_least_value_goes_with_its_frame(rt: HostRuntime) -> Result<(), Fail> {
+    let (first, second) = (key(b"sensor-1")?, key(b"sensor-2")?);
+    let events = [
+        event(1, 1_700_000_000_000, first, 215),
+        event(2, 1_700_000_004_000, second, 198),
+        event(3, 1_700_000_012_000, first, 217),
+    ];
+    let vertex = FrameP::new(rt.alloc(), 0, policy(60_000, 10_000)?);
+    let frames = given(rt.alloc(), vertex, &events)?;
+    let vertex = CombineP::new(rt.alloc(), 0, policy(60_000, 10_000)?);
+    let rows = known_rows(rt.alloc(), &given(rt.alloc(), vertex, &frames)?)?;
+    let (both, other) = ((2, 432, 215, 217), (1, 198, 198, 198));
+    let want = [
+        ((1_700_000_010_000, b'1'), (1, 215, 215, 215)),
+        ((1_700_000_010_000, b'2'), other),
+        ((1_700_000_020_000, b'1'), both),
+        ((1_700_000_020_000, b'2'), other),
+        ((1_700_000_030_000, b'1'), both),
+        ((1_700_000_030_000, b'2'), other),
+        ((1_700_000_040_000, b'1'), both),
+        ((1_700_000_040_000, b'2'), other),
+        ((1_700_000_050_000, b'1'), both),
+        ((1_700_000_050_000, b'2'), other),
+        ((1_700_000_060_000, b'1'), both),
+        ((1_700_000_060_000, b'2'), other),
+        ((1_700_000_070_000, b'1'), (1, 217, 217, 217)),
+    ];
+    assert_eq!(rt; rows.as_slice(), want.as_slice());
     Ok(())
 }
 

@@ -1,5 +1,5 @@
 -- Frames that have entered the slides of their keys.
-use Rattle.std.specs.Prelude.{◌≡◌, ℕ, ℤ, ◌<ℤ◌, ◌≤ℤ◌, Bool, true, false, cond, List, [], ◌∷◌, ◌++◌, Option, Some, None, bytes_eq}
+use Rattle.std.specs.Prelude.{◌≡◌, ℕ, ℤ, ◌<ℤ◌, ◌≤ℤ◌, Bool, true, false, cond, drop, List, [], ◌∷◌, ◌++◌, Option, Some, None, bytes_eq}
 use Rattle.std.specs.List.{flat_map}
 use Rattle.std.specs.Map.{lookup}
 use Rattle.std.specs.BTreeMap.{is_at}
@@ -36,6 +36,20 @@ pairs_or_none (Some pairs) = pairs
 abbrev pub pairs_at : SlidesByKey → List ℕ → List Pair
 pairs_at slides key = pairs_or_none (lookup (is_at (slice_cmp nat_cmp key)) slides)
 
+-- no slide is without a pair
+abbrev pub NoneEmpty : SlidesByKey → Type 0
+NoneEmpty slides = (key : List ℕ) → lookup (is_at (slice_cmp nat_cmp key)) slides ≡ Some [] → ⊥
+
+-- a frame has entered, and no slide was left without a pair
+pub record Gains (old new : SlidesByKey) (f : Place × AccValue) : Type 0 where
+  pub pairs : (key : List ℕ) → pairs_at new key ≡ pairs_at old key ++ pair_of key f
+  pub filled : NoneEmpty old → NoneEmpty new
+
+-- the first frame of a key has left, and no slide was left without a pair
+pub record Loses (old new : SlidesByKey) (key : List ℕ) : Type 0 where
+  pub pairs : (k : List ℕ) → pairs_at new k ≡ drop (cond (bytes_eq key k) 1 0) (pairs_at old k)
+  pub filled : NoneEmpty old → NoneEmpty new
+
 -- whether there is a place, and this one stands at it or before it
 abbrev pub is_up_to : Option Place → Place → Bool
 is_up_to None p = false
@@ -46,12 +60,14 @@ abbrev pub bound_behind : Option Place → Bound Place
 bound_behind None = Unbounded
 bound_behind (Some r) = Excluded r
 
--- the first frames, which stand up to a place, have entered the slides of their keys, and the others stand behind it
+-- the first frames, which stand up to a place, have entered the slides of their keys, and the others stand behind it; there
+-- is no slide without a frame
 pub record HaveEntered (reached : Option Place) (held : Table) (slides : SlidesByKey) (front back : Table) : Type 0 where
   pub split : held ≡ front ++ back
   pub upto : Each (λ f. is_up_to reached f.0 ≡ true) front
   pub behind : Each (λ f. is_up_to reached f.0 ≡ false) back
   pub pairs : (key : List ℕ) → pairs_at slides key ≡ pairs_of key front
+  pub filled : NoneEmpty slides
 
 -- the frames up to a place, and no others, have entered
 pub record Tracks (reached : Option Place) (held : Table) (slides : SlidesByKey) : Type 0 where

@@ -1,7 +1,5 @@
 -- The rows of one window, by key.
 use Rattle.std.specs.Prelude.{◌≡◌, ℕ, ℤ, List, bytes_eq}
-use Rattle.std.specs.Map.{lookup}
-use Rattle.std.specs.BTreeMap.{insert_entry, is_at}
 use Rattle.std.specs.Ordering.{nat_cmp}
 use Rattle.std.specs.Cmp.Lexicographic.{slice_cmp}
 use Rattle.std.specs.declared.cmp.Ordering.TheVariants.{Less}
@@ -9,11 +7,7 @@ use Rattle.jet_items.specs.Values.{AccValue}
 use Rattle.jet_items.specs.Totals.{total}
 use Rattle.jet_items.specs.Frames.{only}
 use Rattle.jet_items.specs.Order.{EachPair}
-use Rattle.jet_window.specs.FrameTables.{Table, held_in, with_acc}
-
--- rows with an accumulator joined in
-abbrev pub key_joined : List (List ℕ × AccValue) → List ℕ → AccValue → List (List ℕ × AccValue)
-key_joined rows k a = insert_entry (slice_cmp nat_cmp) rows k (with_acc (lookup (is_at (slice_cmp nat_cmp k)) rows) a)
+use Rattle.jet_window.specs.FrameTables.{Table, held_in}
 
 abbrev pub KeysRise : List (List ℕ × AccValue) → Type 0
 KeysRise rows = EachPair (λ (a b : List ℕ × AccValue). slice_cmp nat_cmp a.0 b.0 ≡ Less) rows
