@@ -113,7 +113,7 @@ module _ {P : Type 0} (stands : P → List CallEntry → List Item → Type 0) (
   answered p c taken es given is may (Err e) h = (taken, is, h, may)
 
   -- after a call for what is pending
-  pub make_keeps : (same : P → P → Type 0) (frugal : Bool) → ((p q : P) (port : Port) (queue : ℕ) → same p q → takes p port queue → takes q port queue) → (t : Tasklet P) (p : P) (out : BoxView) (c : Pending) (r : Result Bool NoMemory) (came : List Arrival) (gave : List Item) → t.step ≡ step.Make c → Call stands amid same frugal t.processor (entry_of c) t.outbox r p out → Keeps stands amid takes t came gave → Keeps stands amid takes (record { processor = p; inputs = t.inputs; outputs = t.outputs; coalescer = t.coalescer; step = step_after r c; outbox = out }) came gave
+  pub make_keeps : (same : P → P → Type 0) (frugal : Bool) → ((p q : P) (port : Port) (queue : ℕ) → same p q → takes p port queue → takes q port queue) → (t : Tasklet P) (p : P) (out : BoxView) (c : Pending) (r : Result Bool NoMemory) (came : List Arrival) (gave : List Item) → t.step ≡ step.Make c → Call stands amid same frugal t.processor (entry_of c) t.outbox r p out → Keeps stands amid takes t came gave → Keeps stands amid takes (record { processor = p; inputs = t.inputs; next = t.next; outputs = t.outputs; coalescer = t.coalescer; step = step_after r c; outbox = out }) came gave
   make_keeps same frugal stay t p out c r came gave is did k =
       let n : ℕ = queue_count Stream (inputs_view t.inputs.items) in
       let es : List CallEntry = told (step.Make c) n came in
@@ -134,7 +134,7 @@ module _ {P : Type 0} (stands : P → List CallEntry → List Item → Type 0) (
       }
 
   -- Done was put
-  pub done_keeps : (t : Tasklet P) (out : BoxView) (came : List Arrival) (gave : List Item) → t.step ≡ step.End → out ≡ record { room = t.outbox.room; items = t.outbox.items ++ item.Done ∷ [] } → Keeps stands amid takes t came gave → Keeps stands amid takes (record { processor = t.processor; inputs = t.inputs; outputs = t.outputs; coalescer = t.coalescer; step = step.Ended; outbox = out }) came gave
+  pub done_keeps : (t : Tasklet P) (out : BoxView) (came : List Arrival) (gave : List Item) → t.step ≡ step.End → out ≡ record { room = t.outbox.room; items = t.outbox.items ++ item.Done ∷ [] } → Keeps stands amid takes t came gave → Keeps stands amid takes (record { processor = t.processor; inputs = t.inputs; next = t.next; outputs = t.outputs; coalescer = t.coalescer; step = step.Ended; outbox = out }) came gave
   done_keeps t out came gave is put k =
       let n : ℕ = queue_count Stream (inputs_view t.inputs.items) in
       let items : out.items ≡ t.outbox.items ++ item.Done ∷ [] = ap (λ (h : BoxView). h.items) put in
@@ -150,7 +150,7 @@ module _ {P : Type 0} (stands : P → List CallEntry → List Item → Type 0) (
       }
 
   -- nothing is left to take
-  pub finish_keeps : (t : Tasklet P) (came : List Arrival) (gave : List Item) → t.step ≡ step.Poll → ((port : Port) → all_done port (inputs_view t.inputs.items) ≡ true) → Keeps stands amid takes t came gave → Keeps stands amid takes (record { processor = t.processor; inputs = t.inputs; outputs = t.outputs; coalescer = t.coalescer; step = step.Make call.Finish; outbox = t.outbox }) came gave
+  pub finish_keeps : (t : Tasklet P) (came : List Arrival) (gave : List Item) → t.step ≡ step.Poll → ((port : Port) → all_done port (inputs_view t.inputs.items) ≡ true) → Keeps stands amid takes t came gave → Keeps stands amid takes (record { processor = t.processor; inputs = t.inputs; next = t.next; outputs = t.outputs; coalescer = t.coalescer; step = step.Make call.Finish; outbox = t.outbox }) came gave
   finish_keeps t came gave is done k =
       let n : ℕ = queue_count Stream (inputs_view t.inputs.items) in
       let given : List Item = gave ++ t.outbox.items in
@@ -167,7 +167,7 @@ module _ {P : Type 0} (stands : P → List CallEntry → List Item → Type 0) (
       }
 
   -- items left the outbox
-  pub give_keeps : (t : Tasklet P) (outs : Vec Output Global) (out : BoxView) (came : List Arrival) (gave : List Item) → Leaves t.outbox.items (outputs_view t.outputs.items) out.items (outputs_view outs.items) → out.room ≡ t.outbox.room → AllZip OutputGoes (outputs_view t.outputs.items) (outputs_view outs.items) → IsStopped out.items (outputs_view outs.items) → Keeps stands amid takes t came gave → (more : List Item) × (t.outbox.items ≡ more ++ out.items) × Keeps stands amid takes (record { processor = t.processor; inputs = t.inputs; outputs = outs; coalescer = t.coalescer; step = t.step; outbox = out }) came (gave ++ more)
+  pub give_keeps : (t : Tasklet P) (outs : Vec Output Global) (out : BoxView) (came : List Arrival) (gave : List Item) → Leaves t.outbox.items (outputs_view t.outputs.items) out.items (outputs_view outs.items) → out.room ≡ t.outbox.room → AllZip OutputGoes (outputs_view t.outputs.items) (outputs_view outs.items) → IsStopped out.items (outputs_view outs.items) → Keeps stands amid takes t came gave → (more : List Item) × (t.outbox.items ≡ more ++ out.items) × Keeps stands amid takes (record { processor = t.processor; inputs = t.inputs; next = t.next; outputs = outs; coalescer = t.coalescer; step = t.step; outbox = out }) came (gave ++ more)
   give_keeps t outs out came gave leaves room goes stops k =
       let l = leaves gave k.gives_out in
       let es : List CallEntry = told t.step (queue_count Stream (inputs_view t.inputs.items)) came in
@@ -186,7 +186,7 @@ module _ {P : Type 0} (stands : P → List CallEntry → List Item → Type 0) (
       )
 
   -- the inputs look as before
-  pub same_keeps : (t : Tasklet P) (ins : Vec Input Global) (came : List Arrival) (gave : List Item) → inputs_view ins.items ≡ inputs_view t.inputs.items → Keeps stands amid takes t came gave → Keeps stands amid takes (record { processor = t.processor; inputs = ins; outputs = t.outputs; coalescer = t.coalescer; step = t.step; outbox = t.outbox }) came gave
+  pub same_keeps : (t : Tasklet P) (ins : Vec Input Global) (came : List Arrival) (gave : List Item) → inputs_view ins.items ≡ inputs_view t.inputs.items → Keeps stands amid takes t came gave → Keeps stands amid takes (record { processor = t.processor; inputs = ins; next = t.next; outputs = t.outputs; coalescer = t.coalescer; step = t.step; outbox = t.outbox }) came gave
   same_keeps t ins came gave same k = record {
     takes_in = subst (λ (vs : List InputView). Came vs t.coalescer came) (sym same) k.takes_in;
     gives_out = k.gives_out;
@@ -219,7 +219,7 @@ module _ {P : Type 0} (stands : P → List CallEntry → List Item → Type 0) (
   over_going step.Ended vs h = absurd (cc)
 
   -- an item was taken
-  pub take_keeps : (t : Tasklet P) (ins : Vec Input Global) (a : Arrival) (co : Coalescer) (next : Step) (came : List Arrival) (gave : List Item) → t.step ≡ step.Poll → Took (inputs_view t.inputs.items) (inputs_view ins.items) a.port a → (a.port ≡ Stream → all_done Build (inputs_view t.inputs.items) ≡ true) → (a.port ≡ Build → all_done Build (inputs_view t.inputs.items) ≡ false) → Notes t.coalescer co a next → Keeps stands amid takes t came gave → Keeps stands amid takes (record { processor = t.processor; inputs = ins; outputs = t.outputs; coalescer = co; step = next; outbox = t.outbox }) (came ++ a ∷ []) gave
+  pub take_keeps : (t : Tasklet P) (ins : Vec Input Global) (a : Arrival) (co : Coalescer) (next : Step) (came : List Arrival) (gave : List Item) → t.step ≡ step.Poll → Took (inputs_view t.inputs.items) (inputs_view ins.items) a.port a → (a.port ≡ Stream → all_done Build (inputs_view t.inputs.items) ≡ true) → (a.port ≡ Build → all_done Build (inputs_view t.inputs.items) ≡ false) → Notes t.coalescer co a next → Keeps stands amid takes t came gave → Keeps stands amid takes (record { processor = t.processor; inputs = ins; next = t.next; outputs = t.outputs; coalescer = co; step = next; outbox = t.outbox }) (came ++ a ∷ []) gave
   take_keeps t ins a co next came gave is took builds opens note k =
       let vs : List InputView = inputs_view t.inputs.items in
       let ws : List InputView = inputs_view ins.items in

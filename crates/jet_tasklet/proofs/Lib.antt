@@ -7,6 +7,7 @@ pub mod Chaining
 pub mod Coming
 pub mod Crossing
 pub mod DoneLast
+pub mod Fairness
 pub mod Flat
 pub mod Fresh
 pub mod Over

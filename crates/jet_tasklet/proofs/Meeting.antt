@@ -78,12 +78,12 @@ module _ (vs ws : List InputView) (a : IsAlike vs ws) where
   over_alike step.Ended h = λ port. done_alike port ∙ h port
 
   -- what a tasklet keeps speaks of nothing that is known
-  pub alike_keeps : {P : Type 0} (stands : P → List CallEntry → List Item → Type 0) (amid : P → List CallEntry → CallEntry → List Item → Type 0) (takes : P → Port → ℕ → Type 0) (t u : Tasklet P) (came : List Arrival) (gave : List Item) → vs ≡ inputs_view t.inputs.items → ws ≡ inputs_view u.inputs.items → u ≡ record t { inputs = u.inputs } → Keeps stands amid takes t came gave → Keeps stands amid takes u came gave
+  pub alike_keeps : {P : Type 0} (stands : P → List CallEntry → List Item → Type 0) (amid : P → List CallEntry → CallEntry → List Item → Type 0) (takes : P → Port → ℕ → Type 0) (t u : Tasklet P) (came : List Arrival) (gave : List Item) → vs ≡ inputs_view t.inputs.items → ws ≡ inputs_view u.inputs.items → u ≡ record t { inputs = u.inputs; next = u.next } → Keeps stands amid takes t came gave → Keeps stands amid takes u came gave
   alike_keeps {P} stands amid takes t u came gave before after is k =
       let ins = u.inputs in
       let came_t : Came vs t.coalescer came = subst (λ (xs : List InputView). Came xs t.coalescer came) (sym before) k.takes_in in
       let n : queue_count Stream (inputs_view ins.items) ≡ queue_count Stream (inputs_view t.inputs.items) = ap (queue_count Stream) (sym after) ∙ (count_alike Stream ∙ ap (queue_count Stream) before) in
-      let next : Keeps stands amid takes (record t { inputs = ins }) came gave = record {
+      let next : Keeps stands amid takes (record t { inputs = ins; next = u.next }) came gave = record {
         takes_in = subst (λ (xs : List InputView). Came xs t.coalescer came) after (came_alike t.coalescer came came_t);
         gives_out = k.gives_out;
         works = subst (λ (m : ℕ). Working stands amid takes t.processor t.step (told t.step m came) (gave ++ t.outbox.items)) (sym n) k.works;

@@ -23,7 +23,7 @@ use Rattle.jet_tasklet.specs.declared.tasklet.Tasklet.{Tasklet}
 use Rattle.jet_tasklet.specs.Inputs.{InputView, inputs_view, queue_count, all_done, received_count}
 use Rattle.jet_tasklet.specs.Keeps.{Keeps, IsLawful, Stays, Goes, told}
 use Rattle.jet_tasklet.specs.Steps.{Working, owed}
-use Rattle.jet_tasklet.specs.Taking.{OpenQueue, Stands, IsNext, Looked, Took, NoneToTake, arrival_of}
+use Rattle.jet_tasklet.specs.Taking.{OpenQueue, Stands, IsNext, Looked, Took, TookAt, NoneToTake, arrival_of}
 use Rattle.jet_tasklet.specs.Turned.{InputGoes, OutputGoes, Turned}
 use Rattle.jet_tasklet.specs.Outputs.{outputs_view}
 use Rattle.jet_tasklet.specs.declared.output.Output.{Output}
@@ -143,9 +143,9 @@ found_none (Some s) vs ws n h = tt
 found_none None vs ws n h = (n, subst NoneToTake (sym n) h)
 
 -- inputs that were lent
-pub took_lent : (xs ys zs ws : List Input) (port : Port) (a : Arrival) → ys ≡ xs → ws ≡ zs → Took (inputs_view ys) (inputs_view zs) port a → Took (inputs_view xs) (inputs_view ws) port a
-took_lent xs ys zs ws port a e f t =
-    subst (λ (us : List Input). Took (inputs_view us) (inputs_view ws) port a) e (subst (λ (us : List Input). Took (inputs_view ys) (inputs_view us) port a) (sym f) t)
+pub took_lent : (xs ys zs ws : List Input) (s : Spot) (x : Item) → ys ≡ xs → ws ≡ zs → TookAt (inputs_view ys) (inputs_view zs) s x → TookAt (inputs_view xs) (inputs_view ws) s x
+took_lent xs ys zs ws s x e f t =
+    subst (λ (us : List Input). TookAt (inputs_view us) (inputs_view ws) s x) e (subst (λ (us : List Input). TookAt (inputs_view ys) (inputs_view us) s x) (sym f) t)
 
 -- a call that has not ended is kept
 pub step_kept : (r : Result Bool NoMemory) (c : Pending) → (r ≡ Ok true → ⊥) → step_after r c ≡ step.Make c
@@ -192,12 +192,12 @@ module _ {P : Type 0} (stands : P → List CallEntry → List Item → Type 0) (
       (next.0, given, next.2, next.3)
 
   -- and then it was taken, and the call has ended or is kept
-  pub hand_goes : (same : P → P → Type 0) (frugal : Bool) → ((p q : P) (port : Port) (queue : ℕ) → same p q → takes p port queue → takes q port queue) → (t : Tasklet P) (ins : Vec Input Global) (a : Arrival) (p : P) (out : BoxView) (r : Result Bool NoMemory) (s : Step) → t.step ≡ step.Poll → Took (inputs_view t.inputs.items) (inputs_view ins.items) a.port a → (a.port ≡ Stream → all_done Build (inputs_view t.inputs.items) ≡ true) → (a.port ≡ Build → all_done Build (inputs_view t.inputs.items) ≡ false) → IsData a.item → Call stands amid same frugal t.processor (Given a.port a.queue a.item) t.outbox r p out → s ≡ step_after r (call.Accept a) → Goes stands amid takes t (record { processor = p; inputs = ins; outputs = t.outputs; coalescer = t.coalescer; step = s; outbox = out })
+  pub hand_goes : (same : P → P → Type 0) (frugal : Bool) → ((p q : P) (port : Port) (queue : ℕ) → same p q → takes p port queue → takes q port queue) → (t : Tasklet P) (ins : Vec Input Global) (a : Arrival) (p : P) (out : BoxView) (r : Result Bool NoMemory) (s : Step) → t.step ≡ step.Poll → Took (inputs_view t.inputs.items) (inputs_view ins.items) a.port a → (a.port ≡ Stream → all_done Build (inputs_view t.inputs.items) ≡ true) → (a.port ≡ Build → all_done Build (inputs_view t.inputs.items) ≡ false) → IsData a.item → Call stands amid same frugal t.processor (Given a.port a.queue a.item) t.outbox r p out → s ≡ step_after r (call.Accept a) → Goes stands amid takes t (record { processor = p; inputs = ins; next = t.next; outputs = t.outputs; coalescer = t.coalescer; step = s; outbox = out })
   hand_goes same frugal stay t ins a p out r s free took builds opens is_data did next =
-      let mid : Tasklet P = record { processor = t.processor; inputs = ins; outputs = t.outputs; coalescer = t.coalescer; step = step.Make (call.Accept a); outbox = t.outbox } in
-      let end : Tasklet P = record { processor = p; inputs = ins; outputs = t.outputs; coalescer = t.coalescer; step = s; outbox = out } in
+      let mid : Tasklet P = record { processor = t.processor; inputs = ins; next = t.next; outputs = t.outputs; coalescer = t.coalescer; step = step.Make (call.Accept a); outbox = t.outbox } in
+      let end : Tasklet P = record { processor = p; inputs = ins; next = t.next; outputs = t.outputs; coalescer = t.coalescer; step = s; outbox = out } in
       let first : Goes stands amid takes t mid = goes_came stands amid takes t mid (a ∷ []) refl (λ came gave k. take_keeps stands amid takes begins t ins a t.coalescer (step.Make (call.Accept a)) came gave free took builds opens (note_data t.coalescer a is_data) k) in
       let second : Stays stands amid takes mid end = record {
-        stays = λ came gave k. subst (λ (f : Step). Keeps stands amid takes (record { processor = p; inputs = ins; outputs = t.outputs; coalescer = t.coalescer; step = f; outbox = out }) came gave) (sym next) (make_keeps stands amid takes begins same frugal stay mid p out (call.Accept a) r came gave refl did k);
+        stays = λ came gave k. subst (λ (f : Step). Keeps stands amid takes (record { processor = p; inputs = ins; next = t.next; outputs = t.outputs; coalescer = t.coalescer; step = f; outbox = out }) came gave) (sym next) (make_keeps stands amid takes begins same frugal stay mid p out (call.Accept a) r came gave refl did k);
       } in
       goes_trans stands amid takes t mid end first (goes_stays stands amid takes mid end second (did.put, sym did.puts))

@@ -49,6 +49,7 @@ module _ {P : Type 0} where
   pub worked_refl : (t : Tasklet P) → Worked t t
   worked_refl t = record {
     inputs = refl;
+    next = refl;
     outputs = refl;
     room = refl;
     puts = ([], sym (append-nil t.outbox.items));
@@ -62,6 +63,7 @@ module _ {P : Type 0} where
       let second : length b.outbox.items ≤ length c.outbox.items = longer b.outbox.items c.outbox.items g.puts.0 g.puts.1 in
       record {
         inputs = g.inputs ∙ f.inputs;
+        next = g.next ∙ f.next;
         outputs = g.outputs ∙ f.outputs;
         room = g.room ∙ f.room;
         puts = (f.puts.0 ++ g.puts.0, g.puts.1 ∙ (ap (λ (xs : List Item). xs ++ g.puts.0) f.puts.1 ∙ append_assoc a.outbox.items f.puts.0 g.puts.0));
@@ -73,11 +75,12 @@ module _ {P : Type 0} where
       }
 
   -- a call was made, and has answered true or is to be made again
-  pub worked_make : {stands : P → List CallEntry → List Item → Type 0} {amid : P → List CallEntry → CallEntry → List Item → Type 0} {same : P → P → Type 0} {frugal : Bool} (t : Tasklet P) (p : P) (out : BoxView) (c : Pending) (r : Result Bool NoMemory) (s : Step) → t.step ≡ step.Make c → Call stands amid same frugal t.processor (entry_of c) t.outbox r p out → (s ≡ step.Make c) ⊎ (s ≡ next_of c) → Worked t (record { processor = p; inputs = t.inputs; outputs = t.outputs; coalescer = t.coalescer; step = s; outbox = out })
+  pub worked_make : {stands : P → List CallEntry → List Item → Type 0} {amid : P → List CallEntry → CallEntry → List Item → Type 0} {same : P → P → Type 0} {frugal : Bool} (t : Tasklet P) (p : P) (out : BoxView) (c : Pending) (r : Result Bool NoMemory) (s : Step) → t.step ≡ step.Make c → Call stands amid same frugal t.processor (entry_of c) t.outbox r p out → (s ≡ step.Make c) ⊎ (s ≡ next_of c) → Worked t (record { processor = p; inputs = t.inputs; next = t.next; outputs = t.outputs; coalescer = t.coalescer; step = s; outbox = out })
   worked_make t p out c r s is did next =
       let kept : finale (step.Make c) ≡ finale t.step = ap finale (sym is) in
       record {
         inputs = refl;
+        next = refl;
         outputs = refl;
         room = did.room;
         puts = (did.put, did.puts);
@@ -92,13 +95,14 @@ module _ {P : Type 0} where
       }
 
   -- Done was put
-  pub worked_put : (t : Tasklet P) (out : BoxView) (s : Step) → t.step ≡ step.End → s ≡ step.Ended → out ≡ record { room = t.outbox.room; items = t.outbox.items ++ item.Done ∷ [] } → Worked t (record { processor = t.processor; inputs = t.inputs; outputs = t.outputs; coalescer = t.coalescer; step = s; outbox = out })
+  pub worked_put : (t : Tasklet P) (out : BoxView) (s : Step) → t.step ≡ step.End → s ≡ step.Ended → out ≡ record { room = t.outbox.room; items = t.outbox.items ++ item.Done ∷ [] } → Worked t (record { processor = t.processor; inputs = t.inputs; next = t.next; outputs = t.outputs; coalescer = t.coalescer; step = s; outbox = out })
   worked_put t out s is now put =
       let items : out.items ≡ t.outbox.items ++ item.Done ∷ [] = ap (λ (h : BoxView). h.items) put in
       let count : length out.items ≡ length (t.outbox.items ++ item.Done ∷ []) = ap (λ (xs : List Item). length xs) items in
       let sum = length-append t.outbox.items (item.Done ∷ []) in
       record {
         inputs = refl;
+        next = refl;
         outputs = refl;
         room = ap (λ (h : BoxView). h.room) put;
         puts = (item.Done ∷ [], items);
@@ -107,9 +111,10 @@ module _ {P : Type 0} where
       }
 
   -- nothing was there to take
-  pub worked_none : (t : Tasklet P) (ins : Vec Input Global) → inputs_view ins.items ≡ inputs_view t.inputs.items → Worked t (record { processor = t.processor; inputs = ins; outputs = t.outputs; coalescer = t.coalescer; step = t.step; outbox = t.outbox })
+  pub worked_none : (t : Tasklet P) (ins : Vec Input Global) → inputs_view ins.items ≡ inputs_view t.inputs.items → Worked t (record { processor = t.processor; inputs = ins; next = t.next; outputs = t.outputs; coalescer = t.coalescer; step = t.step; outbox = t.outbox })
   worked_none t ins same = record {
     inputs = same;
+    next = refl;
     outputs = refl;
     room = refl;
     puts = ([], sym (append-nil t.outbox.items));

@@ -2,6 +2,7 @@ pub mod Any
 pub mod AnyOver
 pub mod Over
 pub mod DoneLast
+pub mod Fairness
 pub mod InOrder
 pub mod Inputs
 pub mod JoinWaits

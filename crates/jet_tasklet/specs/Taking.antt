@@ -59,6 +59,12 @@ pub record IsNext (inputs : List InputView) (s : Spot) : Type 0 where
 abbrev pub arrival_of : Spot → Item → Arrival
 arrival_of s x = record { port = s.port; queue = s.queue; item = x }
 
+-- the item was taken from the spot
+pub record TookAt (before after : List InputView) (s : Spot) (x : Item) : Type 0 where
+  pub took : Took before after s.port (arrival_of s x)
+  pub place_is : took.place ≡ s.place
+  pub within_is : took.within ≡ s.within
+
 -- more items of one queue may be known, and all else is as it was: nothing was taken
 pub record Looked (before after : List InputView) : Type 0 where
   pub place : ℕ

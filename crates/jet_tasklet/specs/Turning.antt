@@ -62,6 +62,7 @@ pub record IsStarved {P : Type 0} (t : Tasklet P) : Type 0 where
 -- nothing was taken or given on, the outbox has some items more, and the finish was not begun; what has ended since put its Done
 pub record Worked {P : Type 0} (a b : Tasklet P) : Type 0 where
   pub inputs : inputs_view b.inputs.items ≡ inputs_view a.inputs.items
+  pub next : b.next ≡ a.next
   pub outputs : b.outputs ≡ a.outputs
   pub room : b.outbox.room ≡ a.outbox.room
   pub puts : (put : List Item) × (b.outbox.items ≡ a.outbox.items ++ put)

@@ -1,7 +1,7 @@
 // Inputs: conveyors with the ports that they lead to.
 ghost use Rattle.std.specs.Prelude.{◌≡◌, ◌<◌, length, IfSome, IfNone};
 ghost use Rattle.std.specs.List.{list_all};
-ghost use Rattle.jet_conveyor.specs.Conveyor.{Found, SeesMore, NoneKnown};
+ghost use Rattle.jet_conveyor.specs.Conveyor.{Found, SeesMore, NoneKnown, InTurn};
 ghost use Rattle.jet_tasklet.specs.Inputs.{input_view};
 ghost use Rattle.jet_tasklet.specs.Trace.{same_port};
 
@@ -37,6 +37,7 @@ impl Input {
     pub(crate) fn find(&mut self) -> Option<u32>
         ensures port { self.new.port ≡ self.old.port }
         ensures found { IfSome result (λ q. (q < length (input_view self.old).queues.rings) × Found (input_view self.old).queues (input_view self.new).queues q) }
+        ensures in_turn { IfSome result (λ q. InTurn (input_view self.old).queues q) }
         ensures nothing { IfNone result (input_view self.new ≡ input_view self.old) }
         ensures cause { IfNone result (NoneKnown (input_view self.old).queues 0 (length (input_view self.old).queues.rings)) }
         ensures seen { SeesMore (input_view self.old).queues (input_view self.new).queues }

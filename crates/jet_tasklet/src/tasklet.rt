@@ -8,7 +8,7 @@ ghost use Rattle.jet_wire.specs.declared.progress.Progress.TheVariants as progre
 ghost use Rattle.jet_tasklet.specs.Steps.{entry_of, next_of};
 
 use crate::call::{call, has_ended};
-use crate::inputs::{Spot, arrival_at, count_queues, find, front, have_ended, skip};
+use crate::inputs::{Spot, arrival_at, count_queues, find, front, have_ended, skip, turn_after};
 use crate::note::{is_data, note};
 use crate::output::Output;
 use crate::outputs::{give_out, over};
@@ -25,6 +25,8 @@ use std::alloc::Global;
 pub struct Tasklet<P> {
     processor: P,
     pub(crate) inputs: Vec<Input>,
+    // The place of the input that is asked first for the next item.
+    next: usize,
     pub(crate) outputs: Vec<Output>,
     // The watermark of the stream queues.
     coalescer: Coalescer,
@@ -54,6 +56,8 @@ impl<P: Processor> Tasklet<P> {
     ghost use Rattle.jet_tasklet.specs.inner.Leaving.{IsStopped};
     ghost use Rattle.jet_tasklet.specs.Turned.{Turned};
     ghost use Rattle.jet_tasklet.specs.Wanting.{IsWanting};
+    ghost use Rattle.jet_tasklet.specs.Fairness.{TookFairly, FoundInTurn, turns_of};
+    ghost use Rattle.jet_tasklet.specs.Taking.{TookAt};
 
     /// A tasklet that has taken nothing, with an outbox for `room` items. The processor, the conveyors and the routers are
     /// new, and there is at least one router.
@@ -80,13 +84,14 @@ impl<P: Processor> Tasklet<P> {
         ensures inputs { IfOk result (λ t. t.inputs ≡ inputs) }
         ensures outputs { IfOk result (λ t. outputs_view t.outputs.items ≡ map ready (map view outputs.items)) }
     {
-        let queues = count_queues(&inputs, Port::Stream);
+        let queues = count_queues(&inputs, inputs.len(), Port::Stream);
         let coalescer = Coalescer::new(alloc, queues)?;
         let outputs = over(alloc, outputs)?;
         let outbox = Outbox::new(alloc, room)?;
         Ok(Tasklet {
             processor,
             inputs,
+            next: 0,
             outputs,
             coalescer,
             step: Step::Poll,
@@ -104,6 +109,7 @@ impl<P: Processor> Tasklet<P> {
         ensures pending { OnErr result (IsWanting self.new.step) }
         ensures took { IfOk result (λ took. Says took (received_count (inputs_view self.old.inputs.items)) (received_count (inputs_view self.new.inputs.items))) }
         ensures few { received_count (inputs_view self.new.inputs.items) ≤ received_count (inputs_view self.old.inputs.items) + 1 }
+        ensures fair { TookFairly self.old self.new }
         ensures outputs { self.new.outputs ≡ self.old.outputs }
         ensures same { result ≡ Ok false → Stays P.stands P.amid P.takes self.old self.new }
         ensures none { result ≡ Ok false → Worked self.old self.new × (self.new.step ≡ step.Poll) × NoneToTake (inputs_view self.new.inputs.items) }
@@ -119,17 +125,21 @@ impl<P: Processor> Tasklet<P> {
         Ok(true)
     }
 
-    // Finds the next item.
+    // Finds the next item, and gives the turn to the input behind its own.
     fn find(&mut self) -> Option<Spot>
         requires keeps { IsLawful P.stands P.amid P.takes self.old }
         ensures keeps { Stays P.stands P.amid P.takes self.old self.new }
         ensures turned { Turned P.same self.old self.new }
-        ensures rest { self.new ≡ record self.old { inputs = self.new.inputs } }
+        ensures rest { self.new ≡ record self.old { inputs = self.new.inputs; next = self.new.next } }
         ensures count { received_count (inputs_view self.new.inputs.items) ≡ received_count (inputs_view self.old.inputs.items) }
         ensures spot { IfSome result (λ s. IsNext (inputs_view self.new.inputs.items) s) }
+        ensures in_turn { IfSome result (λ s. FoundInTurn (turns_of self.old) (turns_of self.new) s) }
         ensures none { IfNone result ((inputs_view self.new.inputs.items ≡ inputs_view self.old.inputs.items) × NoneToTake (inputs_view self.new.inputs.items)) }
+        ensures next { IfNone result (self.new.next ≡ self.old.next) }
     {
-        find(&mut self.inputs)
+        let found = find(&mut self.inputs, self.next);
+        self.next = turn_after(&found, self.next);
+        found
     }
 
     // Takes the mark or the end at a spot, and keeps the call that it asks for.
@@ -140,6 +150,8 @@ impl<P: Processor> Tasklet<P> {
         ensures keeps { Goes P.stands P.amid P.takes self.old self.new }
         ensures turned { Turned P.same self.old self.new }
         ensures count { received_count (inputs_view self.new.inputs.items) ≡ received_count (inputs_view self.old.inputs.items) + 1 }
+        ensures took { (x : Item) × TookAt (inputs_view self.old.inputs.items) (inputs_view self.new.inputs.items) spot.now x }
+        ensures next { self.new.next ≡ self.old.next }
         ensures outputs { self.new.outputs ≡ self.old.outputs }
     {
         let arrival = arrival_at(spot, front(&self.inputs, spot));
@@ -158,6 +170,8 @@ impl<P: Processor> Tasklet<P> {
         ensures wants { OnErr result (P.frugal ≡ false) }
         ensures pending { OnErr result (IsWanting self.new.step) }
         ensures count { received_count (inputs_view self.new.inputs.items) ≡ received_count (inputs_view self.old.inputs.items) + 1 }
+        ensures took { (x : Item) × TookAt (inputs_view self.old.inputs.items) (inputs_view self.new.inputs.items) spot.now x }
+        ensures next { self.new.next ≡ self.old.next }
         ensures outputs { self.new.outputs ≡ self.old.outputs }
     {
         let item = front(&self.inputs, spot);
@@ -256,6 +270,7 @@ impl<P: Processor> Tasklet<P> {
         ensures pending { OnErr result (IsWanting self.new.step) }
         ensures took { IfOk result (λ took. Says took (received_count (inputs_view self.old.inputs.items)) (received_count (inputs_view self.new.inputs.items))) }
         ensures few { received_count (inputs_view self.new.inputs.items) ≤ received_count (inputs_view self.old.inputs.items) + 1 }
+        ensures fair { TookFairly self.old self.new }
         ensures outputs { self.new.outputs ≡ self.old.outputs }
         ensures same { result ≡ Ok false → Stays P.stands P.amid P.takes self.old self.new }
         ensures none { result ≡ Ok false → Worked self.old self.new × TakesNone self.new }
@@ -278,6 +293,7 @@ impl<P: Processor> Tasklet<P> {
         ensures pending { OnErr result (IsWanting self.new.step) }
         ensures took { IfOk result (λ took. Says took (received_count (inputs_view self.old.inputs.items)) (received_count (inputs_view self.new.inputs.items))) }
         ensures few { received_count (inputs_view self.new.inputs.items) ≤ received_count (inputs_view self.old.inputs.items) + 64 }
+        ensures fair { TookFairly self.old self.new }
         ensures outputs { self.new.outputs ≡ self.old.outputs }
         ensures same { result ≡ Ok false → Stays P.stands P.amid P.takes self.old self.new }
         ensures none { result ≡ Ok false → Worked self.old self.new × TakesNone self.new }
@@ -323,6 +339,7 @@ impl<P: Processor> Tasklet<P> {
         ensures step { self.new.step ≡ self.old.step }
         ensures room { self.new.outbox.room ≡ self.old.outbox.room }
         ensures inputs { self.new.inputs ≡ self.old.inputs }
+        ensures next { self.new.next ≡ self.old.next }
         ensures pushed { Says result (sent_count (outputs_view self.old.outputs.items)) (sent_count (outputs_view self.new.outputs.items)) }
         ensures same { result ≡ false → Stays P.stands P.amid P.takes self.old self.new }
         ensures stays { result ≡ false → self.new.outbox.items ≡ self.old.outbox.items }
@@ -341,12 +358,14 @@ impl<P: Processor> Tasklet<P> {
     }
 
     /// Gives the front of the outbox to every output, as far as slots are free, and then takes at most 64 items and hands each
-    /// to the processor. Build queues come first, and stream queues only once every build queue is done.
+    /// to the processor. Build queues come first, and stream queues only once every build queue is done. Each input has its
+    /// turn, and so has each of its queues: none is taken from twice while another one that may be polled has an item.
     pub fn turn(&mut self) -> Result<Progress, NoMemory>
         requires keeps { IsLawful P.stands P.amid P.takes self.old }
         ensures keeps { Goes P.stands P.amid P.takes self.old self.new }
         ensures turned { Turned P.same self.old self.new }
         ensures few { received_count (inputs_view self.new.inputs.items) ≤ received_count (inputs_view self.old.inputs.items) + 64 }
+        ensures fair { TookFairly self.old self.new }
         ensures wants { OnErr result (P.frugal ≡ false) }
         ensures pending { OnErr result (IsWanting self.new.step) }
         ensures done { result ≡ Ok progress.Done → HasEnded self.old × (self.new ≡ self.old) }

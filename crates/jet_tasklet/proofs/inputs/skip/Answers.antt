@@ -15,17 +15,21 @@ returns c = λ x h.
     let at : input_view old ≡ get_or (inputs_view xs) i (input_view old) = view_at xs i old (omega (arith, h.inside, length_views xs)) (ap (λ (d : Input). get_or xs i d) c.index-inputs-spot.is) in
     let there : Stands (inputs_view xs) c.args.spot.now x = stands_in (inputs_view xs) c.args.spot.now x h (input_view old) at in
     record {
-      place = i;
-      within = c.args.spot.now.within;
-      was = input_view old;
-      now = (input_view new).queues;
-      inside = h.inside;
-      at = at;
-      to_port = there.to_port;
-      port_is = refl;
-      queue_is = h.queue_is;
-      is_queue = there.is_queue;
-      took = c.skip.ensures.taken x there.first;
-      seen = c.skip.ensures.seen;
-      after_is = views_set xs i new;
+      took = record {
+        place = i;
+        within = c.args.spot.now.within;
+        was = input_view old;
+        now = (input_view new).queues;
+        inside = h.inside;
+        at = at;
+        to_port = there.to_port;
+        port_is = refl;
+        queue_is = h.queue_is;
+        is_queue = there.is_queue;
+        took = c.skip.ensures.taken x there.first;
+        seen = c.skip.ensures.seen;
+        after_is = views_set xs i new;
+      };
+      place_is = refl;
+      within_is = refl;
     }

@@ -27,6 +27,7 @@ returns g c =
       step = refl;
       room = c.give_out.ensures.room;
       inputs = refl;
+      next = refl;
       pushed = subst (λ (xs : List Output). Says c.give_out.result (sent_count (outputs_view c.args.self.now.outputs.items)) (sent_count (outputs_view xs))) (sym back)
           (subst (λ (xs : List Output). Says c.give_out.result (sent_count (outputs_view xs)) (sent_count (outputs_view c.give_out.new.outputs))) c.deref_mut.ensures.value c.give_out.ensures.pushed);
       same = λ e. gave_none g.P.Processor.stands g.P.Processor.amid g.P.Processor.takes c.args.self.now _ (λ came gave k. give_keeps g.P.Processor.stands g.P.Processor.amid g.P.Processor.takes g.met.P.Processor.begins c.args.self.now (with_items c.args.self.now.outputs c.give_out.new.outputs) c.give_out.new.outbox came gave leaves c.give_out.ensures.room goes stops k) (c.give_out.ensures.stays pushed e);

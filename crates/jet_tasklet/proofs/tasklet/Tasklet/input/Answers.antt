@@ -20,7 +20,7 @@ returns g c =
         refl,
         λ w.
             ap (λ (d : Input).
-            let t : Tasklet g.row.P.Denot = record { processor = c.args.self.now.processor; inputs = with_item c.args.self.now.inputs c.args.n (record { port = d.port; conveyor = w }); outputs = c.args.self.now.outputs; coalescer = c.args.self.now.coalescer; step = c.args.self.now.step; outbox = c.args.self.now.outbox } in t) same,
+            let t : Tasklet g.row.P.Denot = record { processor = c.args.self.now.processor; inputs = with_item c.args.self.now.inputs c.args.n (record { port = d.port; conveyor = w }); next = c.args.self.now.next; outputs = c.args.self.now.outputs; coalescer = c.args.self.now.coalescer; step = c.args.self.now.step; outbox = c.args.self.now.outbox } in t) same,
       ),
       record {
         writes_back = tt;

@@ -12,7 +12,7 @@ pub returns-in_err-ended-clause-keeps : goal.returns-in_err-ended-clause-keeps
 returns-in_err-ended-clause-keeps g c = record {
   stays = λ came gave k.
       let stays : step_after c.call.result c.args.pending.now ≡ c.args.self.now.step = ap (λ (r : Result Bool NoMemory). step_after r c.args.pending.now) c.in_err-ended.was ∙ sym c.requires.pending in
-      subst (λ (s : Step). Keeps g.P.Processor.stands g.P.Processor.amid g.P.Processor.takes (record { processor = c.call.new.processor; inputs = c.args.self.now.inputs; outputs = c.args.self.now.outputs; coalescer = c.args.self.now.coalescer; step = s; outbox = c.call.new.out }) came gave) stays
+      subst (λ (s : Step). Keeps g.P.Processor.stands g.P.Processor.amid g.P.Processor.takes (record { processor = c.call.new.processor; inputs = c.args.self.now.inputs; next = c.args.self.now.next; outputs = c.args.self.now.outputs; coalescer = c.args.self.now.coalescer; step = s; outbox = c.call.new.out }) came gave) stays
       (make_keeps g.P.Processor.stands g.P.Processor.amid g.P.Processor.takes g.met.P.Processor.begins g.P.Processor.same g.P.Processor.frugal g.met.P.Processor.takes_stays c.args.self.now c.call.new.processor c.call.new.out c.args.pending.now c.call.result came gave c.requires.pending c.call.ensures.made k);
 }
 
@@ -20,7 +20,7 @@ pub returns-then-ended-clause-keeps : goal.returns-then-ended-clause-keeps
 returns-then-ended-clause-keeps g c = record {
   stays = λ came gave k.
       let next : step_after c.call.result c.args.pending.now ≡ c.next-self.result = ap (λ (r : Result Bool NoMemory). step_after r c.args.pending.now) (c.in_ok-ended.was ∙ ap Ok c.if-ended.true) ∙ sym c.next-self.ensures in
-      subst (λ (s : Step). Keeps g.P.Processor.stands g.P.Processor.amid g.P.Processor.takes (record { processor = c.call.new.processor; inputs = c.args.self.now.inputs; outputs = c.args.self.now.outputs; coalescer = c.args.self.now.coalescer; step = s; outbox = c.call.new.out }) came gave) next
+      subst (λ (s : Step). Keeps g.P.Processor.stands g.P.Processor.amid g.P.Processor.takes (record { processor = c.call.new.processor; inputs = c.args.self.now.inputs; next = c.args.self.now.next; outputs = c.args.self.now.outputs; coalescer = c.args.self.now.coalescer; step = s; outbox = c.call.new.out }) came gave) next
       (make_keeps g.P.Processor.stands g.P.Processor.amid g.P.Processor.takes g.met.P.Processor.begins g.P.Processor.same g.P.Processor.frugal g.met.P.Processor.takes_stays c.args.self.now c.call.new.processor c.call.new.out c.args.pending.now c.call.result came gave c.requires.pending c.call.ensures.made k);
 }
 
@@ -28,7 +28,7 @@ pub returns-else-ended-clause-keeps : goal.returns-else-ended-clause-keeps
 returns-else-ended-clause-keeps g c = record {
   stays = λ came gave k.
       let stays : step_after c.call.result c.args.pending.now ≡ c.args.self.now.step = ap (λ (r : Result Bool NoMemory). step_after r c.args.pending.now) (c.in_ok-ended.was ∙ ap Ok c.if-ended.false) ∙ sym c.requires.pending in
-      subst (λ (s : Step). Keeps g.P.Processor.stands g.P.Processor.amid g.P.Processor.takes (record { processor = c.call.new.processor; inputs = c.args.self.now.inputs; outputs = c.args.self.now.outputs; coalescer = c.args.self.now.coalescer; step = s; outbox = c.call.new.out }) came gave) stays
+      subst (λ (s : Step). Keeps g.P.Processor.stands g.P.Processor.amid g.P.Processor.takes (record { processor = c.call.new.processor; inputs = c.args.self.now.inputs; next = c.args.self.now.next; outputs = c.args.self.now.outputs; coalescer = c.args.self.now.coalescer; step = s; outbox = c.call.new.out }) came gave) stays
       (make_keeps g.P.Processor.stands g.P.Processor.amid g.P.Processor.takes g.met.P.Processor.begins g.P.Processor.same g.P.Processor.frugal g.met.P.Processor.takes_stays c.args.self.now c.call.new.processor c.call.new.out c.args.pending.now c.call.result came gave c.requires.pending c.call.ensures.made k);
 }
 

@@ -19,7 +19,7 @@ returns g c =
         refl,
         λ w.
             ap (λ (d : Output).
-            let t : Tasklet g.row.P.Denot = record { processor = c.args.self.now.processor; inputs = c.args.self.now.inputs; outputs = with_item c.args.self.now.outputs c.args.n (record { router = w; had = d.had }); coalescer = c.args.self.now.coalescer; step = c.args.self.now.step; outbox = c.args.self.now.outbox } in t) same,
+            let t : Tasklet g.row.P.Denot = record { processor = c.args.self.now.processor; inputs = c.args.self.now.inputs; next = c.args.self.now.next; outputs = with_item c.args.self.now.outputs c.args.n (record { router = w; had = d.had }); coalescer = c.args.self.now.coalescer; step = c.args.self.now.step; outbox = c.args.self.now.outbox } in t) same,
       ),
       record {
         writes_back = tt;

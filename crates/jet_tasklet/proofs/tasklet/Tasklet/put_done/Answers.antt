@@ -27,7 +27,7 @@ pub returns-then-is_err-clause-keeps : goal.returns-then-is_err-clause-keeps
 returns-then-is_err-clause-keeps g c =
     let failed : is_err c.offer.result ≡ true = sym c.is_err.ensures.value ∙ c.if-is_err.true in
     let kept : c.offer.new.self ≡ c.args.self.now.outbox = on_err c.offer.result (c.offer.new.self ≡ c.args.self.now.outbox) failed c.offer.ensures.kept in
-    subst (λ (o : BoxView). Stays g.P.Processor.stands g.P.Processor.amid g.P.Processor.takes c.args.self.now (record { processor = c.args.self.now.processor; inputs = c.args.self.now.inputs; outputs = c.args.self.now.outputs; coalescer = c.args.self.now.coalescer; step = c.args.self.now.step; outbox = o })) (sym kept) (stays_refl g.P.Processor.stands g.P.Processor.amid g.P.Processor.takes c.args.self.now)
+    subst (λ (o : BoxView). Stays g.P.Processor.stands g.P.Processor.amid g.P.Processor.takes c.args.self.now (record { processor = c.args.self.now.processor; inputs = c.args.self.now.inputs; next = c.args.self.now.next; outputs = c.args.self.now.outputs; coalescer = c.args.self.now.coalescer; step = c.args.self.now.step; outbox = o })) (sym kept) (stays_refl g.P.Processor.stands g.P.Processor.amid g.P.Processor.takes c.args.self.now)
 
 pub returns-clause-turned : goal.returns-clause-turned
 returns-clause-turned g c =

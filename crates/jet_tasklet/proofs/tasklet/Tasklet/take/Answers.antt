@@ -1,6 +1,7 @@
 use Rattle.std.proofs.Common.{ap}
 use Rattle.jet_tasklet.proofs.Keeping.{goes_same, goes_trans, lawful_stays}
 use Rattle.jet_tasklet.proofs.Lasting.{turned_trans}
+use Rattle.jet_tasklet.proofs.Fairness.{fair_one, fair_none, same_turns}
 use Rattle.jet_tasklet.proofs.tasklet.Tasklet.take.Goals as goal
 
 pub returns-in_default-clause-keeps : goal.returns-in_default-clause-keeps
@@ -29,3 +30,15 @@ returns-else-is_data-clause-keeps g c = goes_trans g.P.Processor.stands g.P.Proc
 
 pub returns-else-is_data-clause-turned : goal.returns-else-is_data-clause-turned
 returns-else-is_data-clause-turned g c = turned_trans g.P.Processor.same g.met.P.Processor.same_trans c.args.self.now c.find.new.self c.note_front.new.self c.find.ensures.turned c.note_front.ensures.turned
+
+pub returns-in_default-clause-fair : goal.returns-in_default-clause-fair
+returns-in_default-clause-fair g c = fair_none c.args.self.now c.find.new.self (same_turns c.args.self.now c.find.new.self c.in_default.ensures.none.0 c.in_default.ensures.next)
+
+pub returns-in_err-hand_over-clause-fair : goal.returns-in_err-hand_over-clause-fair
+returns-in_err-hand_over-clause-fair g c = fair_one c.args.self.now c.find.new.self c.hand_over.new.self c.in-Some.spot c.in-Some.ensures.in_turn c.in-Some.ensures.spot c.hand_over.ensures.took c.hand_over.ensures.next
+
+pub returns-in_ok-hand_over-clause-fair : goal.returns-in_ok-hand_over-clause-fair
+returns-in_ok-hand_over-clause-fair g c = fair_one c.args.self.now c.find.new.self c.hand_over.new.self c.in-Some.spot c.in-Some.ensures.in_turn c.in-Some.ensures.spot c.hand_over.ensures.took c.hand_over.ensures.next
+
+pub returns-else-is_data-clause-fair : goal.returns-else-is_data-clause-fair
+returns-else-is_data-clause-fair g c = fair_one c.args.self.now c.find.new.self c.note_front.new.self c.in-Some.spot c.in-Some.ensures.in_turn c.in-Some.ensures.spot c.note_front.ensures.took c.note_front.ensures.next

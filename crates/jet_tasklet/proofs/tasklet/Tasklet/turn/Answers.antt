@@ -5,6 +5,7 @@ use Rattle.jet_tasklet.specs.Outputs.{outputs_view, sent_count, Says}
 use Rattle.jet_tasklet.proofs.Turning.{moving, stilled, idles, none_of, rooms_on, begun_goes, turn_goes, turn_stays}
 use Rattle.std.proofs.Common.{refl}
 use Rattle.jet_tasklet.proofs.Lasting.{turned_still, turned_trans}
+use Rattle.jet_tasklet.proofs.Fairness.{fair_none, fair_given, fair_turn}
 use Rattle.jet_tasklet.proofs.Keeping.{goes_refl, goes_trans, lawful_goes}
 use Rattle.jet_tasklet.proofs.tasklet.Tasklet.turn.Goals as goal
 
@@ -128,3 +129,18 @@ returns-else-moved-clause-turned g c =
     let took = turned_trans g.P.Processor.same g.met.P.Processor.same_trans c.args.self.now c.give-pushed.new.self c.take_items.new.self c.give-pushed.ensures.turned c.take_items.ensures.turned in
     let begun = turned_trans g.P.Processor.same g.met.P.Processor.same_trans c.args.self.now c.take_items.new.self c.begin_finish.new.self took c.begin_finish.ensures.turned in
     turned_trans g.P.Processor.same g.met.P.Processor.same_trans c.args.self.now c.begin_finish.new.self c.work.new.self begun c.work.ensures.turned
+
+pub returns-then-has_ended-clause-fair : goal.returns-then-has_ended-clause-fair
+returns-then-has_ended-clause-fair g c = fair_none c.args.self.now c.args.self.now refl
+
+pub returns-in_err-took-clause-fair : goal.returns-in_err-took-clause-fair
+returns-in_err-took-clause-fair g c = fair_given c.args.self.now c.give-pushed.new.self c.take_items.new.self c.give-pushed.ensures.inputs c.give-pushed.ensures.next c.take_items.ensures.fair
+
+pub returns-in_err-work-clause-fair : goal.returns-in_err-work-clause-fair
+returns-in_err-work-clause-fair g c = fair_turn c.args.self.now c.give-pushed.new.self c.take_items.new.self c.begin_finish.new.self c.work.new.self c.give-pushed.ensures.inputs c.give-pushed.ensures.next c.take_items.ensures.fair c.begin_finish.ensures.begins c.work.ensures.worked
+
+pub returns-then-moved-clause-fair : goal.returns-then-moved-clause-fair
+returns-then-moved-clause-fair g c = fair_turn c.args.self.now c.give-pushed.new.self c.take_items.new.self c.begin_finish.new.self c.work.new.self c.give-pushed.ensures.inputs c.give-pushed.ensures.next c.take_items.ensures.fair c.begin_finish.ensures.begins c.work.ensures.worked
+
+pub returns-else-moved-clause-fair : goal.returns-else-moved-clause-fair
+returns-else-moved-clause-fair g c = fair_turn c.args.self.now c.give-pushed.new.self c.take_items.new.self c.begin_finish.new.self c.work.new.self c.give-pushed.ensures.inputs c.give-pushed.ensures.next c.take_items.ensures.fair c.begin_finish.ensures.begins c.work.ensures.worked
