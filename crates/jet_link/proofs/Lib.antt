@@ -1,4 +1,5 @@
 pub mod Acking
+pub mod Acknowledged
 pub mod Both
 pub mod Counting
 pub mod Emptied

@@ -1,5 +1,5 @@
 -- The end that sends, after each of its calls.
-use Rattle.std.proofs.Common.{◌≡◌, ℕ, ◌+◌, ◌-◌, ◌^◌, ◌<◌, ◌≤◌, List, [], ◌∷◌, ◌++◌, map, length, sym, ap, subst, ◌∙◌, arith, Option}
+use Rattle.std.proofs.Common.{◌≡◌, ℕ, ◌+◌, ◌-◌, ◌^◌, ◌<◌, ◌≤◌, List, [], ◌∷◌, ◌++◌, map, length, refl, sym, ap, subst, ◌∙◌, arith, Option}
 use Rattle.std.proofs.lemmas.List.{length-append, length-map, map_push}
 use Rattle.jet_pool.specs.Pool.{BufValue, StockValue}
 use Rattle.jet_ring.specs.Ring as ring
@@ -24,36 +24,32 @@ module _ (l : LinkShape) (c : Counts) (stock : StockValue) (work : Option BufVal
   fewer : length (map ack_view (ring.received acks)) < length (map packet_view (ring.sent packets))
   fewer = omega (arith, length-map (ring.received acks) ack_view, length-map (ring.sent packets) packet_view, e.between, some)
 
-  pub end_took : (stocked : StockValue) → stocked ≡ record stock { inside = stock.inside + 1 } → Accepts l c.sent c.acked c.limit x.processed x.offer
-      → IsSendEnd l (record c { acked = x.processed; limit = x.offer }) stocked work packets later (n - 1)
-  end_took stocked se ok =
-      let r = took_in l (view_of c stock work packets acks) (ack_view x) e.shape e.right fewer pf of ok in
-      let F : List AckView → Type 0 = λ tk. SendsRight l (record (view_of c stock work packets acks) { taken = tk; acked = x.processed; limit = x.offer; inside = stock.inside + 1 }) in
-      let G : StockValue → Type 0 = λ st. IsSendEnd l (record c { acked = x.processed; limit = x.offer }) st work packets later (n - 1) in
-      subst G (sym se) (record {
-        shape = e.shape;
-        right = subst F (sym more) r;
-        n = e.n;
-        room = e.room;
-        work_room = e.work_room;
-        spelled = e.spelled;
-        between = omega (arith, counted, e.between, some);
-      })
-
-  pub end_dropped : (IsHonest l (map packet_view (ring.sent packets)) (map ack_view (ring.received acks) ++ ack_view x ∷ []) → ⊥)
-      → IsSendEnd l c stock work packets later (n - 1)
-  end_dropped unfair =
-      let r = dropped l (view_of c stock work packets acks) (ack_view x) e.shape e.right fewer pf of unfair in
-      let F : List AckView → Type 0 = λ tk. SendsRight l (record (view_of c stock work packets acks) { taken = tk }) in
+  -- it was taken, and the rest is right: so is the end
+  with_taken : (counts : Counts) (stocked : StockValue) → stocked.n ≡ stock.n → stocked.room ≡ stock.room
+      → SendsRight l (record (view_of counts stocked work packets acks) { taken = map ack_view (ring.received acks) ++ ack_view x ∷ [] }) → IsSendEnd l counts stocked work packets later (n - 1)
+  with_taken counts stocked same_n same_room r =
+      let F : List AckView → Type 0 = λ tk. SendsRight l (record (view_of counts stocked work packets acks) { taken = tk }) in
       record {
         shape = e.shape;
         right = subst F (sym more) r;
-        n = e.n;
-        room = e.room;
+        n = same_n ∙ e.n;
+        room = same_room ∙ e.room;
         work_room = e.work_room;
         spelled = e.spelled;
         between = omega (arith, counted, e.between, some);
       }
+
+  pub end_took : (stocked : StockValue) → stocked ≡ record stock { inside = stock.inside + 1 } → Accepts l c.sent c.acked c.limit x.processed x.offer
+      → IsSendEnd l (record c { acked = x.processed; limit = x.offer }) stocked work packets later (n - 1)
+  end_took stocked se ok =
+      let r = took_in l (view_of c stock work packets acks) (ack_view x) e.shape e.right fewer pf of ok in
+      let G : StockValue → Type 0 = λ st. IsSendEnd l (record c { acked = x.processed; limit = x.offer }) st work packets later (n - 1) in
+      subst G (sym se) (with_taken (record c { acked = x.processed; limit = x.offer }) (record stock { inside = stock.inside + 1 }) refl refl r)
+
+  pub end_dropped : (IsHonest l (map packet_view (ring.sent packets)) (map ack_view (ring.received acks) ++ ack_view x ∷ []) → ⊥)
+      → IsSendEnd l c stock work packets later (n - 1)
+  end_dropped unfair =
+      with_taken c stock refl refl (dropped l (view_of c stock work packets acks) (ack_view x) e.shape e.right fewer pf of unfair)
 
   pub end_unfair : ((x.buf.room ≡ l.packet) → Accepts l c.sent c.acked c.limit x.processed x.offer → ⊥) → IsSendEnd l c stock work packets later (n - 1)
   end_unfair no_such = end_dropped (λ h.

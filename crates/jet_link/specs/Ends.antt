@@ -2,6 +2,7 @@
 use Rattle.std.specs.Prelude.{◌≡◌, ℕ, ◌+◌, ◌*◌, ◌<◌, ◌≤◌, Bool, cond, get_or, List, map, length, Option, Some, None}
 use Rattle.std.specs.Option.{ForSome}
 use Rattle.jet_pool.specs.Pool.{BufValue, StockValue}
+use Rattle.jet_spell.specs.Packets.{IsSpelled}
 use Rattle.jet_ring.specs.Ring as ring
 use Rattle.jet_ring.specs.declared.ends.Tx.{Tx}
 use Rattle.jet_ring.specs.declared.ends.Rx.{Rx}
@@ -10,7 +11,6 @@ use Rattle.jet_link.specs.declared.ack.Ack.{Ack}
 use Rattle.jet_link.specs.declared.counts.Counts.{Counts}
 use Rattle.jet_link.specs.declared.shape.LinkShape.{LinkShape}
 use Rattle.jet_link.specs.Shape.{IsShape}
-use Rattle.jet_link.specs.Spelled.{IsSpelled}
 use Rattle.jet_link.specs.Link.{PacketView, AckView, SendState, RecvState, SendsRight, RecvsRight, no_packet}
 
 abbrev pub packet_view : Packet → PacketView
@@ -45,7 +45,7 @@ pub record IsSendEnd (l : LinkShape) (counts : Counts) (stock : StockValue) (wor
   pub n : stock.n ≡ l.buffers
   pub room : stock.room ≡ l.packet
   pub work_room : ForSome work (λ b. b.room ≡ l.packet)
-  pub spelled : ForSome work (λ b. ∥ IsSpelled b.bytes ∥₁)
+  pub spelled : ForSome work (λ b. IsSpelled b.bytes)
   pub between : outstanding + length (ring.received acks) ≡ length (ring.sent packets)
 
 abbrev pub recv_from : List Packet → List Ack → Option Packet → Bool → ℕ → ℕ → ℕ → RecvState

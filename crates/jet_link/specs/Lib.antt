@@ -5,5 +5,4 @@ pub mod Packets
 pub mod Receiving
 pub mod Sending
 pub mod Shape
-pub mod Spelled
 pub mod Views

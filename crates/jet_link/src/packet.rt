@@ -1,6 +1,6 @@
 // What passes through the ring of packets.
 ghost use Rattle.std.specs.Prelude.{◌≤◌, length};
-ghost use Rattle.jet_link.specs.Spelled.{IsSpelled};
+ghost use Rattle.jet_spell.specs.Packets.{IsSpelled};
 
 use jet_pool::Buf;
 
@@ -10,7 +10,7 @@ pub struct Packet {
     pub(crate) buf: Buf,
     pub ghost some: { 1 ≤ length buf.bytes },
     pub ghost small: { length buf.bytes ≤ 65536 },
-    pub ghost spelled: { ∥ IsSpelled buf.bytes ∥₁ },
+    pub ghost spelled: { IsSpelled buf.bytes },
 }
 
 impl Packet {
@@ -18,7 +18,7 @@ impl Packet {
 
     pub(crate) fn new(buf: Buf) -> Packet
         requires size { (1 ≤ length buf.bytes) × (length buf.bytes ≤ 65536) }
-        requires spelled { ∥ IsSpelled buf.bytes ∥₁ }
+        requires spelled { IsSpelled buf.bytes }
         ensures { result.buf ≡ buf }
     {
         Packet { buf }

@@ -1,5 +1,5 @@
 -- A sender to which one item more came.
-use Rattle.std.proofs.Common.{◌≡◌, ℕ, zero, suc, ◌<◌, ◌==◌, ◌||◌, Bool, true, false, cond, List, [], ◌∷◌, ◌++◌, length, get_or, set, map, refl, sym, ◌∙◌, ap, subst, inl, inr, arith, Option, None, append-nil}
+use Rattle.std.proofs.Common.{◌≡◌, ℕ, ◌<◌, ◌==◌, Bool, true, false, List, [], ◌∷◌, ◌++◌, length, get_or, set, sym, ◌∙◌, ap, subst, inl, inr, arith, Option, None, append-nil}
 use Rattle.std.proofs.lemmas.List.{get_or-set_same, get_or-set_other, length-set, length-map}
 use Rattle.std.proofs.lemmas.Bool.Decides.{eqb_tells}
 use Rattle.jet_items.specs.declared.item.Item.{Item}
@@ -9,30 +9,15 @@ use Rattle.jet_items.proofs.Orders.{Each-append, Each-more, EachPair-append}
 use Rattle.jet_coalescer.specs.declared.coalescer.Coalescer.{Coalescer}
 use Rattle.jet_coalescer.specs.declared.queue.Queue.{Queue}
 use Rattle.jet_coalescer.specs.Low.{HasHeard, known}
-use Rattle.jet_coalescer.specs.Queues.{is_done_at, unknown}
+use Rattle.jet_coalescer.specs.Queues.{is_done_at}
 use Rattle.jet_conveyor.specs.Conveyor as conveyor
 use Rattle.jet_wire.specs.Noting.{items_in, Passes}
-use Rattle.jet_wire.specs.Passing.{Taken, MayFollow, InOrder, of_queue, has_ended, histories, heard, passed, passes}
+use Rattle.jet_wire.specs.Passing.{Taken, MayFollow, InOrder, of_queue, has_ended, heard, passed, passes}
 use Rattle.jet_wire.specs.Sender.{SenderView, queue_count, HasTaken, HasSent, SenderKeeps}
-use Rattle.jet_wire.proofs.Heard.{own_queue, other_queue, passed-push, length_histories, ended_push}
-
-or_at : (b c : Bool) → b ≡ false → (b || c) ≡ c
-or_at true c h = absurd (cc)
-or_at false c h = refl
+use Rattle.jet_wire.proofs.Heard.{own_queue, other_queue, passed-push}
+use Rattle.jet_wire.proofs.Histories.{length_histories, ended_push, or_at, none_split, done_of, done_known}
 
 -- no Done came of a queue that is not done
-none_clash : (a b : Bool) → a ≡ true → (a || b) ≡ false → ⊥
-none_clash true b d i = cc
-none_clash false b d i = cc
-
-none_later : (a b : Bool) → (a || b) ≡ false → b ≡ false
-none_later true b i = absurd (cc)
-none_later false b i = i
-
-none_split : (f : Bool) (x : Item) (xs : List Item) → has_ended (cond f (x ∷ []) [] ++ xs) ≡ false → (is_done x ≡ true → f ≡ false) × (has_ended xs ≡ false)
-none_split true x xs e = (λ d. absurd (none_clash (is_done x) (has_ended xs) d e), none_later (is_done x) (has_ended xs) e)
-none_split false x xs e = (λ d. refl, e)
-
 none_ended : (q : ℕ) (came : List Taken) → has_ended (of_queue q came) ≡ false → Each (λ b. is_done b.item ≡ true → (b.queue == q) ≡ false) came
 none_ended q [] h = tt
 none_ended q (b ∷ came) h = let r = none_split (b.queue == q) b.item (of_queue q came) h in (r.0, none_ended q came r.1)
@@ -45,15 +30,6 @@ order_more n came a lt still o = record {
       EachPair-append MayFollow came (a ∷ []) o.follows (tt, tt)
       (Each-more (λ (b : Taken). MayFollow b a) (λ (b : Taken). Each (MayFollow b) (a ∷ [])) (λ b f. (f, tt)) came (none_ended a.queue came still));
 }
-
--- the queue of this number is done
-abbrev done_of : List Queue → ℕ → Bool
-done_of queues q = let queue = get_or queues q unknown in queue.done
-
-done_known : (n : ℕ) (f : ℕ → List Item) (q : ℕ) → q < n → done_of (map known (histories n f)) q ≡ has_ended (f q)
-done_known zero f q lt = absurd (omega (arith, lt))
-done_known (suc n) f zero lt = refl
-done_known (suc n) f (suc q) lt = done_known n (λ k. f (suc k)) q (omega (arith, lt))
 
 module _ (v : SenderView) (came : List Taken) (h : HasTaken v.queues v.lows came) where
   heard_count : length v.lows.queues ≡ queue_count v

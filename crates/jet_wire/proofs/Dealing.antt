@@ -12,6 +12,7 @@ use Rattle.jet_items.specs.Fits.{ItemFits}
 use Rattle.jet_items.specs.declared.item.Item.{Item}
 use Rattle.jet_spell.specs.Begins.{BeginsWith, BeginsNone}
 use Rattle.jet_spell.specs.Laws.{OneSpelling, SpellingsAreShort}
+use Rattle.jet_spell.specs.Packets.{AreSpelled, IsSpelled}
 use Rattle.jet_spell.specs.Spelling.{spelling, spellings}
 use Rattle.jet_router.specs.declared.Given.{Given}
 use Rattle.jet_router.specs.declared.Given.TheVariants as given
@@ -22,16 +23,15 @@ use Rattle.jet_router.proofs.Counting.{sent_and_free, free_falls}
 use Rattle.jet_link.specs.Meeting.{IsNewRecv}
 use Rattle.jet_link.specs.Packets.{packed}
 use Rattle.jet_link.specs.Receiving.{held_bytes}
-use Rattle.jet_link.specs.Spelled.{IsSpelled}
 use Rattle.jet_wire.specs.Receiver.{ReceiverView, bytes_left, IsUnsent, ReceiverKeeps}
 use Rattle.jet_wire.specs.ReceiverTurn.{RouterGoes}
 use Rattle.jet_wire.specs.ReceiverSteps.{Deals}
 use Rattle.jet_wire.proofs.Counting.{all_rises, again_owes}
 
 -- ---- spelled bytes
-no_items : (bs : List ℕ) (b : ℕ) → BeginsNone (b ∷ bs) → IsSpelled (b ∷ bs) → ⊥
-no_items bs b none ([], fits, e) = cc
-no_items bs b none (x ∷ xs, fits, e) = none x (spellings xs) fits.0 (e ∙ flat_map-cons spelling x xs)
+no_items : (bs : List ℕ) (b : ℕ) → BeginsNone (b ∷ bs) → (items : List Item) × AreSpelled items (b ∷ bs) → ⊥
+no_items bs b none ([], so) = cc so.spelled
+no_items bs b none (x ∷ xs, so) = none x (spellings xs) so.fits.0 (so.spelled ∙ flat_map-cons spelling x xs)
 
 -- the bytes behind a place, as the code cuts them
 pub rest_of : (xs ys : List ℕ) (n : ℕ) → xs ≡ ys → take (length xs - n) (drop n xs) ≡ drop n ys
@@ -41,15 +41,15 @@ pub if_none : {X : Type 0} (r : Option X) {P Q : Type 0} → IfNone r P → (P �
 if_none None p f = f p
 if_none (Some x) p f = tt
 
-pub nothing_left : (bytes : List ℕ) → ∥ IsSpelled bytes ∥₁ → BeginsNone bytes → bytes ≡ []
+pub nothing_left : (bytes : List ℕ) → IsSpelled bytes → BeginsNone bytes → bytes ≡ []
 nothing_left [] s none = refl
 nothing_left (b ∷ bs) s none = absurd (∥∥₁_elim s (λ x y. absurd x) (no_items bs b none))
 
-rest_items : OneSpelling → (x : Item) (n : ℕ) (b : List ℕ) → BeginsWith x n b → 1 ≤ length (spelling x) → IsSpelled b → IsSpelled (drop n b)
-rest_items one x n b w some ([], f, e) = absurd (omega (arith, some, ap length e, ap length w.begins, length-append (spelling x) (drop n b)))
-rest_items one x n b w some (y ∷ ys, f, e) =
-    let both = one x y (drop n b) (spellings ys) w.fits f.0 (sym w.begins ∙ (e ∙ flat_map-cons spelling y ys)) in
-    (ys, f.1, both.1)
+rest_items : OneSpelling → (x : Item) (n : ℕ) (b : List ℕ) → BeginsWith x n b → 1 ≤ length (spelling x) → (items : List Item) × AreSpelled items b → (items : List Item) × AreSpelled items (drop n b)
+rest_items one x n b w some ([], so) = absurd (omega (arith, some, ap length so.spelled, ap length w.begins, length-append (spelling x) (drop n b)))
+rest_items one x n b w some (y ∷ ys, so) =
+    let both = one x y (drop n b) (spellings ys) w.fits so.fits.0 (sym w.begins ∙ (so.spelled ∙ flat_map-cons spelling y ys)) in
+    (ys, record { fits = so.fits.1; spelled = both.1 })
 
 pub same_next : OneSpelling → (x y : Item) (n m : ℕ) (b : List ℕ) → BeginsWith x n b → BeginsWith y m b → y ≡ x
 same_next one x y n m b w u = (one y x (drop m b) (drop n b) u.fits w.fits (sym u.begins ∙ w.begins)).0
@@ -161,7 +161,7 @@ module _ (one : OneSpelling) (short : SpellingsAreShort) (v : ReceiverView) (b :
         bytes = k.bytes ∙ (ap (λ (bs : List ℕ). spellings items ++ bs) w.begins ∙ (sym (append_assoc (spellings items) (spelling x) (drop n (bytes_left v)))
             ∙ (ap (λ (bs : List ℕ). bs ++ drop n (bytes_left v)) (sym front) ∙ ap (λ (bs : List ℕ). spellings (items ++ x ∷ []) ++ bs) (sym left_is))));
         inside = still_inside k.inside;
-        spelled = subst (λ (bs : List ℕ). ∥ IsSpelled bs ∥₁) (sym left_is) (∥∥₁_map k.spelled (rest_items one x n (bytes_left v) w some));
+        spelled = subst (λ (bs : List ℕ). IsSpelled bs) (sym left_is) (∥∥₁_map k.spelled (rest_items one x n (bytes_left v) w some));
         hand = λ busy. absurd (cc (free, busy));
         owed = λ busy. absurd (cc (free, busy));
         dests = omega (arith, k.dests, same_dests v.router b g.goes.same);
@@ -250,7 +250,7 @@ fresh_keeps v e u at_zero early =
       fits = tt;
       bytes = ap packed e.received ∙ sym left;
       inside = omega (arith, at_zero);
-      spelled = subst (λ (bs : List ℕ). ∥ IsSpelled bs ∥₁) (sym left) ∣ ([], tt, refl) ∣₁;
+      spelled = subst (λ (bs : List ℕ). IsSpelled bs) (sym left) ∣ ([], record { fits = tt; spelled = refl }) ∣₁;
       hand = λ busy. absurd (let free = u.free in cc);
       owed = λ busy. absurd (let free = u.free in cc);
       dests = u.dests;

@@ -13,7 +13,8 @@ use Rattle.jet_wire.specs.DoneLast.{DoneLast}
 use Rattle.jet_wire.specs.Noting.{items_in}
 use Rattle.jet_wire.specs.Passing.{Taken, MayFollow, InOrder, of_queue, has_ended, histories, heard, mark_items, change_items, passed_of, passes, passed_after, begun}
 use Rattle.jet_wire.specs.Sender.{SenderView, queue_count, SenderKeeps}
-use Rattle.jet_wire.proofs.Heard.{own_queue, ended_push}
+use Rattle.jet_wire.proofs.Heard.{own_queue}
+use Rattle.jet_wire.proofs.Histories.{ended_push, or_at}
 
 abbrev NotDone : Item → Type 0
 NotDone x = is_done x ≡ false
@@ -34,10 +35,6 @@ true_second false b e = absurd (cc)
 or_none : (a b : Bool) → a ≡ false → b ≡ false → (a || b) ≡ false
 or_none true b e f = e
 or_none false b e f = f
-
-or_first : (a b : Bool) → a ≡ false → (a || b) ≡ b
-or_first true b e = absurd (cc)
-or_first false b e = refl
 
 -- ---- whether every queue gave its Done
 all_here : (n : ℕ) (f : ℕ → List Item) → ((q : ℕ) → q < n → has_ended (f q) ≡ true) → all_done (histories n f) ≡ true
@@ -86,7 +83,7 @@ ends_after b xs ys none (inl (e, f)) =
     (subst (EndsIn b) (sym same) ends, ap has_ended same ∙ (none_has xs none ∙ sym f))
 ends_after b xs ys none (inr (y, e, d)) =
     let same : xs ++ ys ≡ xs ++ y ∷ [] = ap (λ (zs : List Item). xs ++ zs) e in
-    (subst (EndsIn b) (sym same) (ends_more b xs y d none), ap has_ended same ∙ (ended_push xs y ∙ (or_first (has_ended xs) (is_done y) (none_has xs none) ∙ d)))
+    (subst (EndsIn b) (sym same) (ends_more b xs y d none), ap has_ended same ∙ (ended_push xs y ∙ (or_at (has_ended xs) (is_done y) (none_has xs none) ∙ d)))
 
 mark_gives : (b : Bool) (o : Option ℤ) → b ≡ false → Gives b (mark_items o)
 mark_gives b None e = inl (refl, e)

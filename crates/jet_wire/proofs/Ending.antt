@@ -1,5 +1,5 @@
 -- The end of a link: what the receiver gave is all that the sender passed on.
-use Rattle.std.proofs.Common.{◌≡◌, ◌||◌, ◌≤◌, Bool, true, false, All, ℕ, List, [], ◌∷◌, ◌++◌, length, refl, sym, ◌∙◌, ap, subst, arith, append_assoc, append-nil, Option, Some, None, inl, inr, length-append}
+use Rattle.std.proofs.Common.{◌≡◌, ◌||◌, Bool, true, false, All, ℕ, List, [], ◌∷◌, ◌++◌, length, refl, sym, ◌∙◌, ap, subst, arith, append_assoc, append-nil, Option, Some, None, inl, inr, length-append}
 use Rattle.std.specs.Prelude.{◌⊎◌}
 use Rattle.std.proofs.lemmas.List.Concat.{flat_map-append, flat_map-cons}
 use Rattle.std.proofs.lemmas.List.Elements.{All-nil, All-cons}
@@ -46,7 +46,7 @@ or_so : (b c : Bool) → b ≡ true → (b || c) ≡ true
 or_so true c e = refl
 or_so false c e = absurd (cc)
 
-has_behind : (xs ys : List Item) → has_ended xs ≡ true → has_ended (xs ++ ys) ≡ true
+pub has_behind : (xs ys : List Item) → has_ended xs ≡ true → has_ended (xs ++ ys) ≡ true
 has_behind xs ys e = list_any-append is_done xs ys ∙ or_so (has_ended xs) (has_ended ys) e
 
 abbrev NotDone : Item → Type 0
@@ -73,7 +73,7 @@ has_none [] e = All-nil NotDone
 has_none (x ∷ xs) e = let parts = or_parts (is_done x) (has_ended xs) e in All-cons NotDone x xs parts.0 (has_none xs parts.1)
 
 -- a front of a list with Done at its end alone is one too
-front_ends : (xs rest : List Item) (b : Bool) → has_ended xs ≡ b → EndsIn (has_ended (xs ++ rest)) (xs ++ rest) → EndsIn b xs
+pub front_ends : (xs rest : List Item) (b : Bool) → has_ended xs ≡ b → EndsIn (has_ended (xs ++ rest)) (xs ++ rest) → EndsIn b xs
 front_ends xs rest false e ends = has_none xs e
 front_ends xs rest true e ends =
     let none : rest ≡ [] = whole xs rest ends e in

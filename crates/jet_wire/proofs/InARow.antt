@@ -1,19 +1,17 @@
 -- Turns in a row of one sender, and of one receiver.
-use Rattle.std.proofs.Common.{◌≡◌, ℕ, suc, ◌+◌, ◌<◌, ◌≤◌, List, [], ◌∷◌, ◌++◌, length, get_or, sym, ◌∙◌, ap, subst, arith, append_assoc}
+use Rattle.std.proofs.Common.{◌≡◌, ℕ, suc, ◌≤◌, List, [], ◌∷◌, ◌++◌, length, get_or, ◌∙◌, ap, subst, arith, append_assoc}
 use Rattle.std.specs.Prelude.{sum_by}
 use mathlib.Core.List.{IsPrefix}
 use base.Growing.{prefix_trans}
 use Rattle.jet_items.specs.declared.item.Item.{Item}
-use Rattle.jet_conveyor.specs.Conveyor as conveyor
 use Rattle.jet_router.proofs.Counting.{sum_first}
 use Rattle.jet_router.specs.Router as router
-use Rattle.jet_link.specs.Ends.{count_of}
-use Rattle.jet_link.specs.Views.{SendView, RecvView}
+use Rattle.jet_link.specs.Views.{SendView}
 use Rattle.jet_wire.specs.declared.progress.Progress.{Progress}
 use Rattle.jet_wire.specs.declared.progress.Progress.TheVariants as progress
-use Rattle.jet_wire.specs.Receiver.{ReceiverView, ReceiverKeeps, ReceiverIsLawful, Gives, ReceiverStays}
+use Rattle.jet_wire.specs.Receiver.{ReceiverView, ReceiverKeeps, ReceiverIsLawful, Gives}
 use Rattle.jet_wire.specs.ReceiverTurn.{ReceiverTurned, ReceiverIsStill, moved_count}
-use Rattle.jet_wire.specs.Sender.{SenderView, IsLawful, Stays}
+use Rattle.jet_wire.specs.Sender.{SenderView, IsLawful}
 use Rattle.jet_wire.specs.SenderTurn.{EndGoes, SenderTurned, SenderIsStill, received_count, move_count}
 use Rattle.jet_wire.specs.Turns.{joined, Counts, SenderWent, SenderRested, SenderSaid, ReceiverWent, ReceiverRested, ReceiverSaid}
 use Rattle.jet_wire.proofs.Counting.{count_sents}

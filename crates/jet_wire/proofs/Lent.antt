@@ -40,7 +40,7 @@ queues_met v w q r =
       };
     }
 
--- ---- the destinations of a receiver
+-- ---- the destinations of a router; for the proofs of tasklets too
 settled_same : (ds es : List DestView) → map (λ (d : DestView). d.had) es ≡ map (λ (d : DestView). d.had) ds → map (λ t. t.sent) (map (λ (d : DestView). d.tx) es) ≡ map (λ t. t.sent) (map (λ (d : DestView). d.tx) ds) → map (λ (d : DestView). settled_by d.had d.tx.sent) es ≡ map (λ (d : DestView). settled_by d.had d.tx.sent) ds
 settled_same [] [] h s = refl
 settled_same [] (e ∷ es) h s = absurd (cc)
@@ -54,10 +54,10 @@ settled_same (d ∷ ds) (e ∷ es) h s =
     ap (λ (b : Bool). settled_by b e.tx.sent ∷ map (λ (d : DestView). settled_by d.had d.tx.sent) es) had ∙ (ap (λ (xs : List Item). settled_by d.had xs ∷ map (λ (d : DestView). settled_by d.had d.tx.sent) es) sent ∙ ap (λ (xs : List (List Item)). settled_by d.had d.tx.sent ∷ xs) rest)
 
 module _ (a b : router.View) (d : ℕ) (r : router.Refreshed a b d) where
-  aim_same : (x : Item) → router.aim b x ≡ router.aim a x
+  pub aim_same : (x : Item) → router.aim b x ≡ router.aim a x
   aim_same x = ap (λ (by : Route). aim_of by b.table (item_key x)) r.same.route ∙ ap (λ (t : List ℕ). aim_of a.route t (item_key x)) r.same.table
 
-  dests_same : length b.dests ≡ length a.dests
+  pub dests_same : length b.dests ≡ length a.dests
   dests_same = sym (length-map b.dests (λ (e : DestView). e.had)) ∙ (ap (λ xs. length xs) r.had ∙ length-map a.dests (λ (e : DestView). e.had))
 
   settled_if_same : (u : Bool) → router.settled_if u b.dests ≡ router.settled_if u a.dests
@@ -74,13 +74,13 @@ module _ (a b : router.View) (d : ℕ) (r : router.Refreshed a b d) where
     fits_same deals h.1,
   )
 
-  dealt_same : (deals : List Deal) → Dealt a deals → Dealt b deals
+  pub dealt_same : (deals : List Deal) → Dealt a deals → Dealt b deals
   dealt_same deals h = record {
     by_route = fits_same deals h.by_route;
     sent_is = λ k lt. ap (λ (xs : List (List Item)). get_or xs k []) settles ∙ h.sent_is k (subst (λ (n : ℕ). k < n) dests_same lt);
   }
 
-  in_hand_same : (x : Item) → IsInHand a x → IsInHand b x
+  pub in_hand_same : (x : Item) → IsInHand a x → IsInHand b x
   in_hand_same x h = (
     aim_same x ∙ h.0,
     subst (λ (hs : List Bool). HandIs x hs (sents b)) (sym r.had) (subst (λ (ss : List (List Item)). HandIs x (hads a) ss) (sym r.sent) h.1),

@@ -8,10 +8,12 @@ pub mod Ending
 pub mod Fresh
 pub mod Going
 pub mod Heard
+pub mod Histories
 pub mod InARow
 pub mod Lent
 pub mod Meeting
 pub mod Merged
+pub mod Moves
 pub mod Packets
 pub mod Passing
 pub mod Periods

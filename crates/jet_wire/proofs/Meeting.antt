@@ -56,7 +56,7 @@ receiver_met v e m = record {
 }
 
 -- ---- what was given is what was sent
-front_fits : (xs ys : List Item) → AllByRecursion ItemFits (xs ++ ys) → AllByRecursion ItemFits xs
+pub front_fits : (xs ys : List Item) → AllByRecursion ItemFits (xs ++ ys) → AllByRecursion ItemFits xs
 front_fits [] ys f = tt
 front_fits (x ∷ xs) ys f = (f.0, front_fits xs ys f.1)
 

@@ -8,7 +8,6 @@ use Rattle.std.specs.Int.{int_max}
 use Rattle.std.proofs.lemmas.Int.{ints, fold-int_max_bounds, fold-int_max_reached}
 use Rattle.std.proofs.lemmas.List.Concat.{flat_map-append}
 use Rattle.std.proofs.lemmas.List.Elements.{All-nil, All-cons, All-head, All-tail, All-contains}
-use Rattle.std.proofs.lemmas.List.Folds.{list_any-append}
 use Rattle.std.proofs.lemmas.List.Sums.{fold-append}
 use Rattle.jet_items.specs.declared.item.Item.{Item}
 use Rattle.jet_items.specs.declared.item.Item.TheVariants as item
@@ -23,6 +22,7 @@ use Rattle.jet_coalescer.specs.Queues.{counts, HaveReached}
 use Rattle.jet_wire.specs.Passing.{Taken, MayFollow, InOrder, of_queue, has_ended, history, histories, heard, mark_items, change_items, passed_of, passes, passed}
 use Rattle.jet_wire.proofs.DoneLast.{not_all, still_open}
 use Rattle.jet_wire.proofs.Heard.{of_queue-push, own_queue, passed-push, quiet_heard}
+use Rattle.jet_wire.proofs.Histories.{open_front, risen_is}
 
 -- ---- the greatest mark of a queue
 -- items with a mark, of which the greatest is not below t
@@ -63,13 +63,6 @@ greatest_has P (x ∷ xs) m all is =
 abbrev pub AllReach : ℕ → ℤ → (ℕ → List Item) → Type 0
 AllReach n t lists = (q : ℕ) → q < n → has_ended (lists q) ≡ false → Reaches t (lists q)
 
-or_before : (b c : Bool) → (b || c) ≡ false → b ≡ false
-or_before true c h = cc
-or_before false c h = refl
-
-open_before : (xs ys : List Item) → has_ended (xs ++ ys) ≡ false → has_ended xs ≡ false
-open_before xs ys h = or_before (has_ended xs) (has_ended ys) (sym (list_any-append is_done xs ys) ∙ h)
-
 abbrev pub lists_of : List Taken → ℕ → List Item
 lists_of came q = of_queue q came
 
@@ -77,7 +70,7 @@ all_reach_more : (n : ℕ) (t : ℤ) (came : List Taken) (a : Taken) → AllReac
 all_reach_more n t came a h q lt still =
     let more : List Item = cond (a.queue == q) (a.item ∷ []) [] in
     let grown : of_queue q (came ++ a ∷ []) ≡ of_queue q came ++ more = of_queue-push q came a in
-    let was : has_ended (of_queue q came) ≡ false = open_before (of_queue q came) more (ap has_ended (sym grown) ∙ still) in
+    let was : has_ended (of_queue q came) ≡ false = open_front (of_queue q came) more (ap has_ended (sym grown) ∙ still) in
     subst (Reaches t) (sym grown) (reaches_more t (of_queue q came) more (h q lt was))
 
 get_known : (n : ℕ) (f : ℕ → List Item) (q : ℕ) → q < n → slice_get (map known (histories n f)) q ≡ Some (known (history (f q)))
@@ -113,16 +106,6 @@ low_reached : LowIsLeast → (n : ℕ) (t : ℤ) (f : ℕ → List Item) → low
 low_reached least n t f is = all_reach n t f (least (histories n f) t is).reached
 
 -- ---- a watermark that rose
-risen_if : (b : Bool) (t u : ℤ) → cond {A = Option ℤ} b (Some t) None ≡ Some u → (b ≡ true) × (t ≡ u)
-risen_if true t u h = (refl, cc)
-risen_if false t u h = absurd (cc)
-
-risen_is : (before after : Option ℤ) (u : ℤ) → risen before after ≡ Some u → (after ≡ Some u) × (has_risen before u ≡ true)
-risen_is before None u h = absurd (cc)
-risen_is before (Some t) u h =
-    let r = risen_if (has_risen before t) t u h in
-    (ap Some r.1, subst (λ (s : ℤ). has_risen before s ≡ true) r.1 r.0)
-
 -- it is above each time that the watermark before had reached
 above : (before : Option ℤ) (t u : ℤ) → IsSomeAnd before (λ m. t ≤ℤ m) → has_risen before u ≡ true → t <ℤ u
 above None t u h rose = absurd h

@@ -8,12 +8,12 @@ use base.Growing.{prefix_refl, prefix_trans}
 use Rattle.jet_items.specs.declared.item.Item.{Item}
 use Rattle.jet_spell.specs.Begins.{BeginsWith}
 use Rattle.jet_spell.specs.Laws.{SpellingsAreShort}
+use Rattle.jet_spell.specs.Packets.{IsSpelled}
 use Rattle.jet_spell.specs.Spelling.{spellings}
 use Rattle.jet_link.specs.declared.ack.Ack.{Ack}
 use Rattle.jet_link.specs.declared.packet.Packet.{Packet}
 use Rattle.jet_link.specs.Packets.{packet_bytes, packed}
 use Rattle.jet_link.specs.Receiving.{SameRecv, held_bytes, Received, EndedTurn, next_grant}
-use Rattle.jet_link.specs.Spelled.{IsSpelled}
 use Rattle.jet_link.specs.Views.{RecvView}
 use Rattle.jet_wire.specs.Receiver.{ReceiverView, bytes_left, ReceiverKeeps}
 use Rattle.jet_wire.specs.ReceiverTurn.{RecvGoes}
@@ -87,7 +87,7 @@ module _ (short : SpellingsAreShort) (v : ReceiverView) (e : RecvView) (same : S
         bytes = ap packed r.received ∙ (flat_map-append packet_bytes v.end.packets.received (r.packet ∷ []) ∙ (ap (λ (b : List ℕ). packed v.end.packets.received ++ b) last
             ∙ (ap (λ (b : List ℕ). b ++ r.packet.buf.bytes) (k.bytes ∙ (ap (λ (b : List ℕ). spellings items ++ b) none ∙ append-nil (spellings items))) ∙ ap (λ (b : List ℕ). spellings items ++ b) (sym now))));
         inside = omega (arith, zero_at);
-        spelled = subst (λ (b : List ℕ). ∥ IsSpelled b ∥₁) (sym now) r.packet.spelled;
+        spelled = subst (λ (b : List ℕ). IsSpelled b) (sym now) r.packet.spelled;
         hand = λ busy. let next = k.hand busy in absurd (none_next short next.0 next.1.0 (subst (λ (b : List ℕ). BeginsWith next.0 next.1.0 b) none next.1.1));
         owed = k.owed;
         dests = k.dests;

@@ -1,11 +1,11 @@
 -- What a receiver's turn counts, and what it offers.
-use Rattle.std.proofs.Common.{◌≡◌, ℕ, ◌+◌, ◌*◌, ◌<◌, min, max, Bool, true, false, List, [], ◌∷◌, ◌++◌, length, refl, sym, ◌∙◌, ap, subst, arith, inl, inr, IsTrue, IsFalse, length-append}
+use Rattle.std.proofs.Common.{◌≡◌, ℕ, ◌+◌, ◌*◌, min, max, Bool, true, false, [], ◌∷◌, length, refl, sym, ◌∙◌, ap, subst, arith, inl, inr, IsTrue, IsFalse, length-append}
 use Rattle.jet_link.specs.declared.shape.LinkShape.{LinkShape}
 use Rattle.jet_link.specs.Link.{whole_processed, whole_offer}
 use Rattle.jet_link.specs.Receiving.{held_size, Received, SameCounts, Counted, Acknowledged, EndedTurn, next_grant}
 use Rattle.jet_link.specs.Views.{RecvView, recv_state}
 use Rattle.jet_wire.specs.ReceiverSteps.{CountsBytes, MayAck}
-use Rattle.jet_wire.specs.ReceiverTurn.{CountsTurn, OffersSame, OffersMore, Offers}
+use Rattle.jet_wire.specs.ReceiverTurn.{CountsTurn, Offers}
 use Rattle.jet_wire.proofs.Packets.{last_or_not}
 
 abbrev processed : RecvView → ℕ

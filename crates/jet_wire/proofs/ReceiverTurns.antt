@@ -10,7 +10,7 @@ use Rattle.jet_spell.specs.Begins.{BeginsWith}
 use Rattle.jet_router.specs.Deals.{IsFull}
 use Rattle.jet_router.specs.Router as routers
 use Rattle.jet_router.proofs.Counting.{sent_and_free}
-use Rattle.jet_wire.specs.Receiver.{ReceiverView, bytes_left, ReceiverStays, Gives}
+use Rattle.jet_wire.specs.Receiver.{ReceiverView, bytes_left, ReceiverIsLawful, IsPaced, ReceiverStays, Gives}
 use Rattle.jet_wire.specs.ReceiverSteps.{Deals, Receives, IsUnmoved, IsOwed}
 use Rattle.jet_wire.specs.ReceiverTurn.{RecvGoes, RouterGoes, ReceiverTurned, moved_count, ReceiverIsStill, ReceiverIsBlocked, ReceiverIsFull, ReceiverIsStarved, IsUnloaded, ReceiverRests}
 use Rattle.jet_wire.proofs.Packets.{recv_trans}
@@ -29,6 +29,9 @@ module _ (o a d f : ReceiverView) (first : Receives o a) (deals : Deals a d) (la
         let given = deals.gives items (first.stays.stays items k) in
         (given.0, last.stays.stays (items ++ given.0) given.1);
   }
+
+  pub turn_lawful : ReceiverIsLawful o → IsPaced f → ReceiverIsLawful f
+  turn_lawful l paced = let more = turn_gives.gives l.given l.keeps in record { given = l.given ++ more.0; keeps = more.1; paced = paced }
 
   abbrev through : RecvGoes o.end f.end
   through = recv_trans o.end d.end f.end (subst (λ (e : RecvView). RecvGoes o.end e) (sym deals.end) first.end) last.end

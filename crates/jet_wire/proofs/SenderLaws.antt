@@ -21,7 +21,7 @@ use Rattle.jet_wire.specs.Passing.{Taken, of_queue, has_ended, history, historie
 use Rattle.jet_wire.specs.Sender.{SenderView, queue_count, SenderKeeps}
 use Rattle.jet_wire.proofs.Bags.{all_of_same, merged_bag}
 use Rattle.jet_wire.proofs.DoneLast.{not_all}
-use Rattle.jet_wire.proofs.Heard.{histories_alike}
+use Rattle.jet_wire.proofs.Histories.{histories_alike}
 use Rattle.jet_wire.proofs.Merged.{Ordering, IsPlain, AllReach, lists_of, all_each, passed_in_order, passed_each, passed_marks, last_is_low, low_reaches}
 use Rattle.jet_wire.proofs.Passing.{passes_data, sends_all}
 

@@ -16,9 +16,9 @@ use Rattle.jet_link.specs.Sending.{Packs, TookAcks, NoneToTake, HasBytes, IsBoun
 use Rattle.jet_link.specs.Views.{SendView}
 use Rattle.jet_wire.specs.Passing.{Taken}
 use Rattle.jet_items.specs.declared.item.Item.{Item}
-use Rattle.jet_wire.specs.Sender.{SenderView, work_bytes, SenderKeeps, Goes, Stays}
+use Rattle.jet_wire.specs.Sender.{SenderView, work_bytes, SenderKeeps, IsLawful, Goes, Stays}
 use Rattle.jet_wire.specs.SenderSteps.{Sends, Went, TookNone, Stuck, Empty, HasNothing}
-use Rattle.jet_wire.proofs.Going.{goes_trans, sends_went, went_trans}
+use Rattle.jet_wire.proofs.Going.{goes_trans, lawful_goes, sends_went, went_trans}
 use Rattle.jet_wire.specs.SenderTurn.{SenderIsStill, SenderRests, SenderIsFull, SentAll}
 
 -- ---- the acknowledgements that were taken
@@ -149,6 +149,9 @@ module _ (o : SenderView) (e1 : SendView) (d : SenderView) (e2 : SendView) where
 
     pub turn_goes : Goes o f
     turn_goes = goes_trans o a f (stays_goes o a (acks_keep o e1 acks)) through.goes
+
+    pub turn_lawful : IsLawful o → IsLawful f
+    turn_lawful l = lawful_goes o f turn_goes l
 
     -- a turn in which nothing moved
     module _ (rest : Sends a d) (same : e1 ≡ o.end) (free : e2.packets.free ≡ e1.packets.free) (b1 : IsBounded e1) (b2 : IsBounded e2) where

@@ -4,6 +4,7 @@ pub mod Edge
 pub mod InOrder
 pub mod Lending
 pub mod Meeting
+pub mod Moves
 pub mod Noting
 pub mod Passing
 pub mod Receiver

@@ -5,13 +5,13 @@ use Rattle.jet_items.specs.Done.{is_done}
 use Rattle.jet_items.specs.Fits.{ItemFits}
 use Rattle.jet_items.specs.declared.item.Item.{Item}
 use Rattle.jet_spell.specs.Begins.{BeginsWith}
+use Rattle.jet_spell.specs.Packets.{IsSpelled}
 use Rattle.jet_spell.specs.Spelling.{spellings}
 use Rattle.jet_router.specs.Deals.{Deal, Dealt, items_dealt}
 use Rattle.jet_router.specs.Dest.{DestView}
 use Rattle.jet_router.specs.Router as router
 use Rattle.jet_link.specs.Packets.{packed}
 use Rattle.jet_link.specs.Receiving.{held_bytes}
-use Rattle.jet_link.specs.Spelled.{IsSpelled}
 use Rattle.jet_link.specs.Views.{RecvView, recv_view}
 use Rattle.jet_wire.specs.declared.receiver.Receiver.{Receiver}
 
@@ -45,7 +45,7 @@ pub record ReceiverKeeps (v : ReceiverView) (given : List Item) : Type 0 where
   pub fits : AllByRecursion ItemFits given
   pub bytes : packed v.end.packets.received ≡ spellings given ++ bytes_left v
   pub inside : v.at ≤ length (held_bytes v.end.held)
-  pub spelled : ∥ IsSpelled (bytes_left v) ∥₁
+  pub spelled : IsSpelled (bytes_left v)
   pub hand : v.router.busy ≡ true → (x : Item) × IsNext v x × router.IsInHand v.router x
   pub owed : v.router.busy ≡ true → SomeNotHad v.router.dests
   pub dests : 0 < length v.router.dests

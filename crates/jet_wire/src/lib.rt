@@ -20,7 +20,10 @@ mod turns;
 
 pub use jet_link::{Counts, LinkShape, link};
 pub use jet_spell::{PacketFault, read_item, read_packet, write_item};
-pub use meetings::{links_end, receivers_give_what_was_sent, refresh_link, senders_send_what_came};
+pub use meetings::{
+    links_end, links_move_little, receivers_give_what_was_sent, refresh_link,
+    senders_send_what_came,
+};
 pub use progress::Progress;
 pub use receiver::Receiver;
 pub use sender::Sender;

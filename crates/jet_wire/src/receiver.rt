@@ -23,7 +23,7 @@ impl Receiver {
     ghost use Rattle.std.specs.Prelude.{ℕ, List, ◌*◌};
     ghost use Rattle.jet_items.specs.declared.item.Item.{Item};
     ghost use Rattle.jet_spell.specs.Begins.{BeginsWith};
-    ghost use Rattle.jet_link.specs.Spelled.{IsSpelled};
+    ghost use Rattle.jet_spell.specs.Packets.{IsSpelled};
     ghost use Rattle.jet_router.specs.Router.{view as routes_view};
     ghost use Rattle.jet_link.specs.Receiving.{IsGranted, held_bytes};
     ghost use Rattle.jet_link.specs.Meeting.{IsNewRecv};
@@ -77,7 +77,7 @@ impl Receiver {
     // The next item of the packet in hand, and how many bytes it has.
     fn next(&self) -> Option<(Item, usize)>
         requires inside { (receiver_view self.now).at ≤ length (held_bytes (receiver_view self.now).end.held) }
-        requires spelled { ∥ IsSpelled (bytes_left (receiver_view self.now)) ∥₁ }
+        requires spelled { IsSpelled (bytes_left (receiver_view self.now)) }
         ensures next { IfSome result (λ r. BeginsWith r.0 r.1 (bytes_left (receiver_view self.now))) }
         ensures none { IfNone result (bytes_left (receiver_view self.now) ≡ []) }
     {
@@ -184,6 +184,7 @@ impl Receiver {
     pub fn turn(&mut self) -> Progress
         requires keeps { ReceiverIsLawful (receiver_view self.old) }
         ensures keeps { Gives (receiver_view self.old) (receiver_view self.new) }
+        ensures lawful { ReceiverIsLawful (receiver_view self.new) }
         ensures paced { IsPaced (receiver_view self.new) }
         ensures turned { ReceiverTurned (receiver_view self.old) (receiver_view self.new) }
         ensures granted { (result ≡ progress.Done → ⊥) → IsGranted (receiver_view self.new).end }

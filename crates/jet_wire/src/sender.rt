@@ -190,6 +190,7 @@ impl Sender {
     pub fn turn(&mut self) -> Progress
         requires keeps { IsLawful (sender_view self.old) }
         ensures keeps { Goes (sender_view self.old) (sender_view self.new) }
+        ensures lawful { IsLawful (sender_view self.new) }
         ensures turned { SenderTurned (sender_view self.old) (sender_view self.new) }
         ensures few { received_count (sender_view self.new).queues ≤ received_count (sender_view self.old).queues + 64 }
         ensures bounded { IsBounded (sender_view self.new).end }

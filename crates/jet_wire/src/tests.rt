@@ -1,10 +1,14 @@
-// Edges of one queue and one destination: the acknowledgements and grants of a worked case, and a link of the least sizes.
+// Edges of one queue and one destination: the acknowledgements and grants of a worked case, and a link of the least sizes,
+// with both ends on one thread and with each on a thread of its own.
 ghost use Rattle.std.specs.Prelude.{◌≡◌, IfOk};
 ghost use Rattle.jet_ring.specs.Ring.{tx_ring, rx_ring};
+ghost use Rattle.jet_router.specs.Router.{rings};
+ghost use Rattle.jet_link.specs.Receiving.{SameRecv};
+ghost use Rattle.jet_link.specs.Sending.{SameSend};
 ghost use Rattle.jet_link.specs.Shape.{IsShape};
 ghost use Rattle.jet_wire.specs.Edge.{IsEdge};
-ghost use Rattle.jet_wire.specs.Receiver.{receiver_view};
-ghost use Rattle.jet_wire.specs.Sender.{sender_view};
+ghost use Rattle.jet_wire.specs.Receiver.{receiver_view, ReceiverIsLawful};
+ghost use Rattle.jet_wire.specs.Sender.{sender_view, IsLawful};
 
 use super::*;
 use jet_conveyor::Conveyor;
@@ -13,6 +17,8 @@ use jet_ring::{Rx, Tx, ring};
 use jet_router::Router;
 use std::alloc::Global;
 use std::test::Fail;
+use std::thread;
+use std::thread::Threads;
 
 // The least packet and window, and a grant that follows three times what was processed in two turns.
 const SHAPE: LinkShape = LinkShape {
@@ -181,5 +187,68 @@ fn a_link_of_the_least_sizes_carries_everything(rt: HostRuntime) -> Result<(), F
     assert_eq!(rt; receive(&mut edge), Progress::Done);
     assert_eq!(rt; send(&mut edge), Progress::Moved);
     assert_eq!(rt; send(&mut edge), Progress::Done);
+    Ok(())
+}
+
+fn sent(mut sender: Sender) -> Sender
+    requires { IsLawful (sender_view sender) }
+    ensures lawful { IsLawful (sender_view result) }
+    ensures rings { (sender_view result).queues.rings ≡ (sender_view sender).queues.rings }
+    ensures same { SameSend (sender_view sender).end (sender_view result).end }
+{
+    sender.turn();
+    sender
+}
+
+fn given(mut receiver: Receiver) -> Receiver
+    requires { ReceiverIsLawful (receiver_view receiver) }
+    ensures lawful { ReceiverIsLawful (receiver_view result) }
+    ensures rings { rings (receiver_view result).router ≡ rings (receiver_view receiver).router }
+    ensures same { SameRecv (receiver_view receiver).end (receiver_view result).end }
+{
+    receiver.turn();
+    receiver
+}
+
+// The sender and the receiver have a turn at once, each on a thread of its own.
+fn across<R: Threads + Sync>(rt: &R, edge: Edge) -> Edge
+    requires { IsEdge (tx_ring edge.source) (sender_view edge.sender) (receiver_view edge.receiver) (rx_ring edge.sink) }
+    ensures { IsEdge (tx_ring result.source) (sender_view result.sender) (receiver_view result.receiver) (rx_ring result.sink) }
+{
+    let Edge {
+        source,
+        sender,
+        receiver,
+        sink,
+    } = edge;
+    let (sender, receiver) = thread::join(rt, move || sent(sender), move || given(receiver));
+    Edge {
+        source,
+        sender,
+        receiver,
+        sink,
+    }
+}
+
+// As `carried`, with turns on two threads.
+fn carried_across<R: Threads + Sync>(rt: &R, mut edge: Edge, end: u32) -> Result<u32, NoMemory>
+    requires { IsEdge (tx_ring edge.source) (sender_view edge.sender) (receiver_view edge.receiver) (rx_ring edge.sink) }
+{
+    let mut fed = 0;
+    let mut came = 0;
+    'rounds: for _ in 0..end {
+        feed(&mut edge.source, &mut fed, end)?;
+        meet(&mut edge);
+        edge = across(rt, edge);
+        meet(&mut edge);
+        drain(&mut edge.sink, &mut came);
+    }
+    Ok(came)
+}
+
+#[test]
+fn both_ends_cross_to_threads_and_back(rt: HostRuntime) -> Result<(), Fail> {
+    let edge = new_edge(rt.alloc(), LEAST)?;
+    assert_eq!(rt; carried_across(&rt, edge, 10_000)?, 10_000);
     Ok(())
 }

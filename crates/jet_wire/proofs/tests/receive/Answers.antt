@@ -1,7 +1,7 @@
 use Rattle.jet_ring.specs.Ring.{rx_ring}
 use Rattle.jet_wire.specs.Receiver.{receiver_view}
 use Rattle.jet_wire.specs.Sender.{sender_view}
-use Rattle.jet_wire.proofs.Edges.{gives_more, link_received}
+use Rattle.jet_wire.proofs.Edges.{gives_turned, link_received}
 use Rattle.jet_wire.proofs.tests.receive.Goals as goal
 
 pub returns : goal.returns
@@ -11,5 +11,5 @@ returns c =
     record {
       takes = c.meet.ensures.takes;
       link = link_received (sender_view c.meet.new.edge.sender).end was.end now.end c.turn.ensures.turned.end.same c.meet.ensures.link;
-      gives = gives_more (rx_ring c.meet.new.edge.sink) was now c.turn.ensures.keeps c.turn.ensures.paced c.turn.ensures.turned.router.same.rings_kept c.meet.ensures.gives;
+      gives = gives_turned (rx_ring c.meet.new.edge.sink) was now c.turn.ensures.lawful c.turn.ensures.turned.router.same.rings_kept c.meet.ensures.gives;
     }

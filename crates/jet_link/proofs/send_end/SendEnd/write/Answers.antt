@@ -5,6 +5,6 @@ pub invariant_of-self : goal.invariant_of-self
 invariant_of-self c =
     let me = c.args.self.now in
     record {
-      right = end_wrote c.in-Some.buf c.write_item.new.buf c.args.item.now c.write_item.ensures.ranges me.shape me.counts me.stock me.work me.packets me.acks me.outstanding me.right c.in-Some.is
-          c.write_item.result c.write_item.ensures.written c.write_item.ensures.full;
+      right = end_wrote c.in-Some.buf c.write_item.new.buf c.args.item.now me.shape me.counts me.stock me.work me.packets me.acks me.outstanding me.right c.in-Some.is
+          c.write_item.result c.write_item.ensures.written c.write_item.ensures.full c.write_item.ensures.list;
     }

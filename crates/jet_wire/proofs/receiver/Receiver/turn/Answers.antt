@@ -1,7 +1,7 @@
-use Rattle.std.proofs.Common.{nat_lt, sym, subst}
+use Rattle.std.proofs.Common.{nat_lt, subst}
 use Rattle.jet_link.specs.Views.{RecvView, recv_view}
 use Rattle.jet_wire.specs.Receiver.{receiver_view}
-use Rattle.jet_wire.proofs.ReceiverTurns.{turn_gives, turn_turned, turn_moved, turn_unloaded, turn_stays, turn_still, turn_rests}
+use Rattle.jet_wire.proofs.ReceiverTurns.{turn_gives, turn_lawful, turn_turned, turn_moved, turn_unloaded, turn_stays, turn_still, turn_rests}
 use Rattle.jet_wire.specs.ReceiverTurn.{CountsTurn, Offers}
 use Rattle.jet_wire.proofs.Periods.{then_counted, then_offers}
 use Rattle.jet_wire.proofs.Turning.{none_of}
@@ -17,6 +17,14 @@ returns-then-moved-clause-keeps c = turn_gives (receiver_view c.args.self.now) (
 pub returns-else-moved-clause-keeps : goal.returns-else-moved-clause-keeps
 returns-else-moved-clause-keeps c = turn_gives (receiver_view c.args.self.now) (receiver_view c.receive-received.new.self) (receiver_view c.unload.new.self) (receiver_view c.settle-acked.new.self)
     c.receive-received.ensures.receives c.unload.ensures.deals c.settle-acked.ensures.receives
+
+pub returns-then-moved-clause-lawful : goal.returns-then-moved-clause-lawful
+returns-then-moved-clause-lawful c = turn_lawful (receiver_view c.args.self.now) (receiver_view c.receive-received.new.self) (receiver_view c.unload.new.self) (receiver_view c.settle-acked.new.self)
+    c.receive-received.ensures.receives c.unload.ensures.deals c.settle-acked.ensures.receives c.requires.keeps c.settle-acked.ensures.paced
+
+pub returns-else-moved-clause-lawful : goal.returns-else-moved-clause-lawful
+returns-else-moved-clause-lawful c = turn_lawful (receiver_view c.args.self.now) (receiver_view c.receive-received.new.self) (receiver_view c.unload.new.self) (receiver_view c.settle-acked.new.self)
+    c.receive-received.ensures.receives c.unload.ensures.deals c.settle-acked.ensures.receives c.requires.keeps c.settle-acked.ensures.paced
 
 pub returns-then-moved-clause-turned : goal.returns-then-moved-clause-turned
 returns-then-moved-clause-turned c = turn_turned (receiver_view c.args.self.now) (receiver_view c.receive-received.new.self) (receiver_view c.unload.new.self) (receiver_view c.settle-acked.new.self)

@@ -3,7 +3,7 @@ use Rattle.jet_link.specs.Views.{SendView, send_view}
 use Rattle.jet_wire.specs.Sender.{SenderView, sender_view}
 use Rattle.jet_wire.proofs.Sending.{sends_back}
 use Rattle.jet_wire.proofs.Going.{goes_refl}
-use Rattle.jet_wire.proofs.Turning.{none_of, turn_goes, turn_stays, turn_still, turn_rests, back_same}
+use Rattle.jet_wire.proofs.Turning.{none_of, turn_goes, turn_lawful, turn_stays, turn_still, turn_rests, back_same}
 use Rattle.jet_wire.proofs.sender.Sender.turn.Goals as goal
 
 pub returns-then-has_ended-clause-keeps : goal.returns-then-has_ended-clause-keeps
@@ -28,6 +28,20 @@ returns-else-moved-clause-keeps c =
     let e2 : SendView = send_view c.put_back.new.self in
     turn_goes (sender_view c.args.self.now) (send_view c.take_acks-acked.new.self) d e2 c.take_acks-acked.ensures.took c.take_items-took.ensures.went
     (sends_back d e2 c.put_back.ensures.packs c.put_back.result c.put_back.ensures.back c.put_back.ensures.kept)
+
+pub returns-then-moved-clause-lawful : goal.returns-then-moved-clause-lawful
+returns-then-moved-clause-lawful c =
+    let d : SenderView = sender_view c.take_items-took.new.self in
+    let e2 : SendView = send_view c.put_back.new.self in
+    turn_lawful (sender_view c.args.self.now) (send_view c.take_acks-acked.new.self) d e2 c.take_acks-acked.ensures.took c.take_items-took.ensures.went
+    (sends_back d e2 c.put_back.ensures.packs c.put_back.result c.put_back.ensures.back c.put_back.ensures.kept) c.requires.keeps
+
+pub returns-else-moved-clause-lawful : goal.returns-else-moved-clause-lawful
+returns-else-moved-clause-lawful c =
+    let d : SenderView = sender_view c.take_items-took.new.self in
+    let e2 : SendView = send_view c.put_back.new.self in
+    turn_lawful (sender_view c.args.self.now) (send_view c.take_acks-acked.new.self) d e2 c.take_acks-acked.ensures.took c.take_items-took.ensures.went
+    (sends_back d e2 c.put_back.ensures.packs c.put_back.result c.put_back.ensures.back c.put_back.ensures.kept) c.requires.keeps
 
 pub returns-else-moved-clause-same : goal.returns-else-moved-clause-same
 returns-else-moved-clause-same c = λ _.
