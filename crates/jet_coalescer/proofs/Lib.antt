@@ -1,5 +1,6 @@
 pub mod Least
 pub mod Lesser
+pub mod Ranks
 pub mod Playing
 pub mod Told
 pub mod Bound

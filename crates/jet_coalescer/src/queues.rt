@@ -65,6 +65,6 @@ impl Queues {
     pub fn present(&self) -> Option<Mark>
         ensures { result ≡ present self.now }
     {
-        self.tournament.least().mark()
+        self.tournament.least()
     }
 }

@@ -1,6 +1,8 @@
-// What the watermark may do for the sake of one queue, or of several.
-ghost use Rattle.std.specs.Prelude.{◌≡◌, IsTrue};
-ghost use Rattle.jet_coalescer.specs.inner.Standings.{lesser, mark_of};
+// What the watermark may do for the sake of one queue, or of several. Standings are kept as ranks: numbers of which the
+// lesser stands for the lesser standing, below all marks for one that waits, and above them for one that passes.
+ghost use Rattle.std.specs.Prelude.{◌≡◌};
+ghost use Rattle.jet_coalescer.specs.inner.Standings.{lesser, mark_of, standing_at};
+ghost use Rattle.jet_coalescer.specs.declared.standing.Standing.TheVariants as standing;
 
 use jet_items::Mark;
 
@@ -16,42 +18,36 @@ pub enum Standing {
 }
 
 impl Standing {
-    /// The lesser of two: waiting is the least, and passing the greatest.
-    pub fn lesser(self, other: Standing) -> Standing
-        ensures { result ≡ lesser self other }
+    /// The rank of the standing.
+    pub fn rank(self) -> i64
+        ensures { standing_at result ≡ self }
     {
         match self {
-            Standing::Waits => self,
-            Standing::At(one) => match other {
-                Standing::At(two) if two.t < one.t => other,
-                Standing::Waits => other,
-                _ => self,
-            },
-            Standing::Passes => other,
+            Standing::Waits => i64::MIN,
+            Standing::At(mark) => rank_at(mark),
+            Standing::Passes => i64::MAX,
         }
     }
+}
 
-    /// Whether the two are the same.
-    pub fn is_same(&self, other: &Standing) -> bool
-        ensures { IsTrue result → self.now ≡ other.now }
-    {
-        match self {
-            Standing::Waits => matches!(other, Standing::Waits),
-            Standing::At(one) => match other {
-                Standing::At(two) => one.t == two.t,
-                _ => false,
-            },
-            Standing::Passes => matches!(other, Standing::Passes),
-        }
-    }
+// The rank of a mark.
+fn rank_at(mark: Mark) -> i64
+    ensures { standing_at result ≡ standing.At mark }
+{
+    mark.fits();
+    mark.t
+}
 
-    /// The mark, if it is one.
-    pub fn mark(self) -> Option<Mark>
-        ensures { result ≡ mark_of self }
-    {
-        match self {
-            Standing::At(mark) => Some(mark),
-            _ => None,
-        }
-    }
+/// The rank of the lesser of two standings: waiting is the least, and passing the greatest.
+pub fn lesser_rank(one: i64, two: i64) -> i64
+    ensures { standing_at result ≡ lesser (standing_at one) (standing_at two) }
+{
+    if two < one { two } else { one }
+}
+
+/// The mark at this rank, if there is one.
+pub fn mark_at(rank: i64) -> Option<Mark>
+    ensures { result ≡ mark_of (standing_at rank) }
+{
+    Mark::new(rank)
 }

@@ -1,6 +1,7 @@
 -- What the queues let the watermark be, each alone and all together.
-use Rattle.std.specs.Prelude.{if◌then◌else◌, ℤ, List, [], ◌∷◌, map, Option, Some, None}
+use Rattle.std.specs.Prelude.{if◌then◌else◌, Bool, true, false, ℤ, pos, neg_ℤ, List, [], ◌∷◌, map, Option, Some, None, int_lt}
 use Rattle.std.specs.Int.{int_min}
+use Rattle.jet_items.specs.Ranges.{most_mark}
 use Rattle.jet_coalescer.specs.Queues.{counts}
 use Rattle.jet_coalescer.specs.declared.queue.Queue.{Queue}
 use Rattle.jet_coalescer.specs.declared.standing.Standing.{Standing}
@@ -36,3 +37,12 @@ standing_of queue = if counts queue then at_mark queue.mark else standing.Passes
 -- how each queue stands
 abbrev pub standings : List Queue → List Standing
 standings queues = map standing_of queues
+
+-- the standing that a number stands for: one below all marks waits, and one above passes
+abbrev pub placed : Bool → Bool → ℤ → Standing
+placed true above t = standing.Waits
+placed false true t = standing.Passes
+placed false false t = standing.At t
+
+abbrev pub standing_at : ℤ → Standing
+standing_at t = placed (int_lt t (neg_ℤ (pos most_mark))) (int_lt (pos most_mark) t) t

@@ -1,9 +1,13 @@
 -- Tournaments: a list in whose second half each queue stands, and at each place of the first half, but for 0, the lesser of
 -- the two places below it.
-use Rattle.std.specs.Prelude.{◌≡◌, ◌≢◌, ℕ, ◌+◌, ◌*◌, ◌≤◌, ◌<◌, List, length, slice_index_or}
-use Rattle.jet_coalescer.specs.inner.Standings.{lesser}
+use Rattle.std.specs.Prelude.{◌≡◌, ◌≢◌, ℕ, ◌+◌, ◌*◌, ◌≤◌, ◌<◌, ℤ, List, map, length, slice_index_or}
+use Rattle.jet_coalescer.specs.inner.Standings.{lesser, standing_at}
 use Rattle.jet_coalescer.specs.declared.standing.Standing.{Standing}
 use Rattle.jet_coalescer.specs.declared.standing.Standing.TheVariants as standing
+
+-- the standings that these ranks stand for
+abbrev pub places : List ℤ → List Standing
+places ranks = map standing_at ranks
 
 -- what stands at a place
 abbrev pub place : List Standing → ℕ → Standing
