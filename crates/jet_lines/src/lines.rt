@@ -70,13 +70,15 @@ impl Lines {
         }
     }
 
-    /// Makes room for a piece of so many bytes, so that `put` of one that is not longer succeeds. A call for want of memory
-    /// changes nothing. The room is at most twice what is asked for again, and so many bytes more, unless there was more before:
-    /// memory stays flat however long the file is.
+    /// Makes room for a piece of so many bytes, so that `append` takes one that is not longer. A call changes nothing where
+    /// there is room, or where memory is wanting. The room is at most twice what is asked for again, and so many bytes more,
+    /// unless there was more before: memory stays flat however long the file is.
     pub fn reserve(&mut self, count: usize) -> Result<(), NoMemory>
         ensures same { self.new ≡ record self.old { held = self.new.held } }
         ensures ok { OnOk result (length self.old.line + 2 + length self.old.rest + count ≤ self.new.held) }
+        ensures err { OnErr result (self.new ≡ self.old) }
         ensures full { OnErr result (self.old.held < length self.old.line + 2 + length self.old.rest + count) }
+        ensures roomy { length self.old.line + 2 + length self.old.rest + count ≤ self.old.held → self.new ≡ self.old }
         ensures flat { self.new.held ≤ max self.old.held (2 * (length self.old.line + 2 + length self.old.rest) + count) }
     {
         let live = self.to - self.from + 2 + (self.len - self.at);
@@ -94,13 +96,26 @@ impl Lines {
     pub fn put(&mut self, piece: &[u8]) -> Result<(), NoMemory>
         requires { self.old.ended ≡ false }
         ensures ok { OnOk result (self.new ≡ record self.old { rest = self.old.rest ++ piece.now; held = self.new.held }) }
-        ensures err { OnErr result (self.new ≡ record self.old { held = self.new.held }) }
+        ensures err { OnErr result (self.new ≡ self.old) }
         ensures full { OnErr result (self.old.held < length self.old.line + 2 + length self.old.rest + length piece.now) }
         ensures flat { self.new.held ≤ max self.old.held (2 * (length self.old.line + 2 + length self.old.rest) + length piece.now) }
     {
         self.reserve(piece.len())?;
         self.append(piece);
         Ok(())
+    }
+
+    /// Takes the next piece of the file, for which there is room, before its end was told. It wants no memory.
+    pub fn append(&mut self, piece: &[u8])
+        requires open { self.old.ended ≡ false }
+        requires room { length self.old.line + 2 + length self.old.rest + length piece.now ≤ self.old.held }
+        ensures { self.new ≡ record self.old { rest = self.old.rest ++ piece.now } }
+    {
+        let gone = put_behind(&mut self.held, self.len, self.from, piece);
+        self.len = self.len - gone + piece.len();
+        self.from -= gone;
+        self.to -= gone;
+        self.at -= gone;
     }
 
     /// Says that the file has no byte more.
@@ -147,18 +162,6 @@ impl Lines {
     {
         let bytes = &self.held[..self.len];
         &bytes[self.from..self.to]
-    }
-
-    // Puts a piece behind what is held, where there is room for it.
-    fn append(&mut self, piece: &[u8])
-        requires room { length self.old.line + 2 + length self.old.rest + length piece.now ≤ self.old.held }
-        ensures { self.new ≡ record self.old { rest = self.old.rest ++ piece.now } }
-    {
-        let gone = put_behind(&mut self.held, self.len, self.from, piece);
-        self.len = self.len - gone + piece.len();
-        self.from -= gone;
-        self.to -= gone;
-        self.at -= gone;
     }
 }
 
