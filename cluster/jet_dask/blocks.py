@@ -12,7 +12,7 @@ from typing import Optional, Union
 import numpy as np
 
 from jet_dask import lines
-from jet_dask.columns import LineFault, Parsed, parse
+from jet_dask.columns import LineFault, Parsed, parse, parse_times
 
 SAMPLE = 32
 MOST_SIDE_ROWS = 16
@@ -32,15 +32,14 @@ class Block:
 
 @dataclass(frozen=True)
 class Scan:
-    """What the first pass tells of a block: its lines, its events, their least and greatest time (0 where there are none), a sample
-    of their times in order, and its first bad line."""
+    """What the first pass tells of a block: its lines, its events, their least and greatest time (0 where there are none), and a sample
+    of their times in order. Of a block with a bad line the times are of no use."""
 
     lines: int
     events: int
     least: int
     greatest: int
     sample: tuple[int, ...]
-    fault: Optional[LineFault]
 
 
 def cut_file(part: int, path: bytes, size: int, block: int) -> list[Block]:
@@ -71,12 +70,11 @@ def parse_block(block: Block) -> Parsed:
 
 def scan(block: Block) -> Scan:
     """The first pass over a block."""
-    found = parse_block(block)
-    if len(found.ts) == 0:
-        return Scan(found.lines, 0, 0, 0, (), found.fault)
-    step = -(-len(found.ts) // SAMPLE)
-    sample = tuple(np.sort(found.ts[::step]).tolist())
-    return Scan(found.lines, len(found.ts), int(found.ts.min()), int(found.ts.max()), sample, found.fault)
+    count, ts = parse_times(read_lines(block))
+    if len(ts) == 0:
+        return Scan(count, 0, 0, 0, ())
+    step = -(-len(ts) // SAMPLE)
+    return Scan(count, len(ts), int(ts.min()), int(ts.max()), tuple(np.sort(ts[::step]).tolist()))
 
 
 @dataclass(frozen=True)

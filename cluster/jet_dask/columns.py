@@ -1,7 +1,8 @@
 """The lines of a block as columns.
 
-A line that is plainly good is read here, all of a block together: fields without quotation marks, or with one before and one
-behind. Every other line that holds something is handed to `lines`, so that its fault, or its event, is told there.
+A line whose fields have no quotation marks, or one before and one behind, is read here, all of a block together, eight bytes at a
+time. Every good line is of this form, since neither a number nor a key has a comma or a mark; so the first line that holds something and
+is not read here is the first bad one, and `lines` tells its fault.
 """
 
 from __future__ import annotations
@@ -14,14 +15,27 @@ import pandas as pd
 from numpy.typing import NDArray
 
 from jet_dask import lines
-from jet_dask.keys import LONGEST, NO_KEYS, Codes, Table, joined_tables, table_of
+from jet_dask.keys import LONGEST, NO_KEYS, Codes, Table
 
 Ints = NDArray[np.int64]
+Words = NDArray[np.uint64]
 Bools = NDArray[np.bool_]
 Bytes = NDArray[np.uint8]
 
-LF, CR, MARK, COMMA, MINUS, ZERO = 10, 13, 34, 44, 45, 48
+LF, CR, MARK, COMMA, MINUS = 10, 13, 34, 44, 45
 FIRST_BYTE, LAST_BYTE = 32, 126
+FEWEST_COMMAS, MOST_COMMAS = 2, 5
+
+WORD = 8
+# bytes before and behind a text, so that words may begin before it and end behind it
+MARGIN = 3 * WORD
+# for each number of bytes up to 8 a word of which the first, or the last, so many bytes are ones; a text's first byte is the lowest
+FIRST_BYTES = np.array([(1 << 8 * count) - 1 for count in range(WORD + 1)], dtype=np.uint64)
+LAST_BYTES = ~FIRST_BYTES[::-1]
+ZEROS = np.uint64(0x3030303030303030)
+HIGH_HALVES = np.uint64(0xF0F0F0F0F0F0F0F0)
+SIXES = np.uint64(0x0606060606060606)
+EIGHT_DIGITS = 10**WORD
 
 
 @dataclass(frozen=True)
@@ -34,57 +48,117 @@ class LineFault:
 
 @dataclass(frozen=True)
 class Parsed:
-    """A block: how many lines begin in it, its events by line, counted from 1, and its first bad line."""
+    """A block: how many lines begin in it, its events by line, counted from 1, and its first bad line. With a bad line the events are of
+    no use."""
 
     lines: int
     line: Ints
     ts: Ints
     code: Codes
     table: Table
-    values: tuple[Ints, Ints, Ints, Ints]
+    values: tuple[Ints, ...]
     fault: Optional[LineFault]
 
 
 @dataclass(frozen=True)
 class Spans:
-    """The lines of a block: where each begins and ends, less its LF and one CR."""
+    """The lines of a block: where each begins and ends, less its LF and one CR. `breaks` are the places of all commas and LFs; the commas
+    of line i are those from `first[i]` on, `commas[i]` of them, and its LF is the next."""
 
     text: Bytes
     begin: Ints
     end: Ints
+    breaks: Ints
+    first: Ints
+    commas: Ints
 
     def chosen(self, places: NDArray) -> Spans:
         """Only these lines."""
-        return replace(self, begin=self.begin[places], end=self.end[places])
+        parts = {name: getattr(self, name)[places] for name in ("begin", "end", "first", "commas")}
+        return replace(self, **parts)
+
+    def stop(self, field: int) -> Ints:
+        """Where the field of this number ends, from 0 on; each line has it."""
+        last = self.commas == field
+        return np.where(last, self.end, self.breaks[np.where(last, 0, self.first + field)])
+
+
+@dataclass(frozen=True)
+class Plain:
+    """The lines of the form that is read here: all lines of a block, the places of these, and which lines hold something."""
+
+    spans: Spans
+    places: Ints
+    filled: Bools
+    data: bytes
+    whole: Spans
 
 
 def parse(data: bytes) -> Parsed:
-    """The events of whole lines; of a block with a bad line only that fault is of use."""
-    spans = cut(data)
-    empty = (spans.end == spans.begin) | is_idle(spans)
-    clean, plain = unquoted(spans)
-    plain &= ~empty & (spans.end - spans.begin <= lines.LONGEST_LINE) & ~has_bad_byte(spans)
-    commas = np.flatnonzero(clean.text == COMMA)
-    first = np.searchsorted(commas, clean.begin)
-    count = np.searchsorted(commas, clean.end) - first
-    plain &= (count >= 2) & (count <= 5)
+    """The events of whole lines."""
+    plain = plain_lines(data)
+    spans = plain.spans
+    words = words_of(spans.text)
+    stops = [spans.stop(0), spans.stop(1)]
+    ts, good = numbers(words, spans.begin, stops[0])
+    code, table, fine = keys(words, stops[0] + 1, stops[1])
+    good &= fine
+    values, begin = [], stops[1] + 1
+    for field in range(FEWEST_COMMAS, MOST_COMMAS + 1):
+        there = slice(None) if field == FEWEST_COMMAS else np.flatnonzero(spans.commas >= field)
+        column = np.zeros(len(ts), dtype=np.int64)
+        stop = spans.chosen(there).stop(field)
+        column[there], fine = numbers(words, begin[there], stop)
+        good[there] &= fine
+        begin[there] = stop + 1
+        values.append(column)
+    fault = first_fault(plain, good)
+    return Parsed(len(plain.filled), plain.places + 1, ts, code, table, tuple(values), fault)
+
+
+def parse_times(data: bytes) -> tuple[int, Ints]:
+    """How many lines there are, and the times of their events, where none is bad."""
+    plain = plain_lines(data)
+    ts, good = numbers(words_of(plain.spans.text), plain.spans.begin, plain.spans.stop(0))
+    return len(plain.filled), ts[good]
+
+
+def first_fault(plain: Plain, good: Bools) -> Optional[LineFault]:
+    """The first line that holds something and was not read well, with its fault."""
+    left = plain.filled.copy()
+    left[plain.places[good]] = False
+    if not left.any():
+        return None
+    place = int(np.argmax(left))
+    read = lines.read_event(plain.data[plain.whole.begin[place] : plain.whole.end[place]])
+    assert isinstance(read, lines.Fault), "a good line was not read in columns"
+    return LineFault(place + 1, read.number)
+
+
+def plain_lines(data: bytes) -> Plain:
+    """The lines that have three to six fields, plain or quoted without a comma or mark inside, are not too long and have no bad byte.
+    A last line without LF is a line, and nothing behind the last LF is one."""
+    if data and not data.endswith(b"\n"):
+        data += b"\n"
+    whole = cut(np.frombuffer(data, dtype=np.uint8))
+    length = whole.end - whole.begin
+    filled = (length > 0) & ~is_idle(whole)
+    spans, plain = unquoted(whole)
+    plain &= filled & (length <= lines.LONGEST_LINE) & ~has_bad_byte(whole)
+    plain &= (spans.commas >= FEWEST_COMMAS) & (spans.commas <= MOST_COMMAS)
     places = np.flatnonzero(plain)
-    found, good = _read(clean.chosen(places), commas, first[places], count[places], places + 1)
-    plain[places[~good]] = False
-    found = _kept(found, good)
-    others = np.flatnonzero(~plain & ~empty)
-    return replace(_with_others(found, data, spans, others), lines=len(spans.begin))
+    return Plain(spans.chosen(slice(None) if len(places) == len(plain) else places), places, filled, data, whole)
 
 
-def cut(data: bytes) -> Spans:
-    """The lines between line feeds, each less one CR at its end; nothing behind the last LF is no line."""
-    text = np.frombuffer(data, dtype=np.uint8)
-    end = np.flatnonzero(text == LF)
-    if len(text) and text[-1] != LF:
-        end = np.append(end, len(text))
-    begin = np.concatenate([[0], end[:-1] + 1]).astype(np.int64)[: len(end)]
-    returned = (end > begin) & (text[np.maximum(end - 1, 0)] == CR) if len(end) else np.zeros(0, dtype=bool)
-    return Spans(text, begin, (end - returned).astype(np.int64))
+def cut(text: Bytes) -> Spans:
+    """The lines of a text in which each ends with LF, each less one CR at its end."""
+    breaks = np.flatnonzero((text == COMMA) | (text == LF))
+    feeds = np.flatnonzero(text[breaks] == LF)
+    end = breaks[feeds]
+    begin = np.append(0, end[:-1] + 1)[: len(end)]
+    first = np.append(0, feeds[:-1] + 1)[: len(feeds)]
+    returned = (end > begin) & (text[end - 1] == CR)
+    return Spans(text, begin, end - returned, breaks, first, feeds - first)
 
 
 def is_idle(spans: Spans) -> Bools:
@@ -99,11 +173,13 @@ def is_idle(spans: Spans) -> Bools:
 
 def has_bad_byte(spans: Spans) -> Bools:
     """Whether a line has a byte outside 32 to 126, between its beginning and its end."""
-    bad = (spans.text < FIRST_BYTE) | (spans.text > LAST_BYTE)
-    bad[spans.end[spans.end < len(spans.text)]] = False
-    places = np.flatnonzero(bad & (spans.text != LF))
+    # below 32 the difference wraps around
+    bad = spans.text - np.uint8(FIRST_BYTE) > LAST_BYTE - FIRST_BYTE
+    bad[spans.breaks[spans.first + spans.commas]] = False
+    bad[spans.end] = False
     found = np.zeros(len(spans.begin), dtype=bool)
-    found[np.searchsorted(spans.begin, places, side="right") - 1] = True
+    if bad.any():
+        found[np.searchsorted(spans.begin, np.flatnonzero(bad), side="right") - 1] = True
     return found
 
 
@@ -121,100 +197,72 @@ def unquoted(spans: Spans) -> tuple[Spans, Bools]:
     line = np.searchsorted(spans.begin, marks, side="right") - 1
     before = np.searchsorted(line, np.arange(len(fine)))
     opens = (np.arange(len(marks)) - before[line]) % 2 == 0
-    field = np.searchsorted(np.flatnonzero(text == COMMA), marks)
+    field = np.searchsorted(spans.breaks, marks)
     begins = (marks == spans.begin[line]) | (text[np.maximum(marks - 1, 0)] == COMMA)
     ends = (marks + 1 == spans.end[line]) | (text[np.minimum(marks + 1, len(text) - 1)] == COMMA)
-    pairs = np.append((line[1:] == line[:-1]) & (field[1:] == field[:-1]), False)
+    pairs = np.append(field[1:] == field[:-1], False)
     fine[line[np.where(opens, ~(begins & pairs), ~ends)]] = False
-    dropped = marks[fine[line]]
     left = np.ones(len(text), dtype=bool)
-    left[dropped] = False
-    begin = spans.begin - np.searchsorted(dropped, spans.begin)
-    return Spans(text[left], begin, spans.end - np.searchsorted(dropped, spans.end)), fine
+    left[marks[fine[line]]] = False
+    return cut(text[left]), fine
 
 
-def numbers(text: Bytes, begin: Ints, end: Ints) -> tuple[Ints, Bools]:
-    """The numbers of fields, and which fields hold one; the digits are taken from the last one on, all fields together."""
-    if len(begin) == 0:
-        return np.zeros(0, dtype=np.int64), np.zeros(0, dtype=bool)
-    negative = (text[np.minimum(begin, len(text) - 1)] == MINUS) & (end > begin)
-    length = end - begin - negative
+def words_of(text: Bytes) -> Words:
+    """The word of eight bytes that begins at each place of the text, and at `MARGIN` places before it and behind it."""
+    edge = np.zeros(MARGIN, dtype=np.uint8)
+    padded = np.concatenate([edge, text, edge, edge[:WORD]])
+    return np.ndarray((len(text) + 2 * MARGIN,), dtype="<u8", buffer=padded, strides=(1,))
+
+
+def numbers(words: Words, begin: Ints, end: Ints) -> tuple[Ints, Bools]:
+    """The numbers of fields, and which fields hold one: a minus or none, 1 to 16 digits, and at most 10^15 on either side of 0."""
+    negative = (words[begin + MARGIN] & np.uint64(0xFF)) == MINUS
+    length = end - begin - (negative & (end > begin))
     good = (length >= 1) & (length <= lines.MOST_DIGITS)
-    length = np.where(good, length, 0)
-    least, scale = int(length.min()), 1
-    found = np.zeros(len(begin), dtype=np.int64)
-    for place in range(int(length.max())):
-        digit = text[end - 1 - place if place < least else np.where(length > place, end - 1 - place, 0)] - np.uint8(ZERO)
-        if place >= least:
-            digit = np.where(length > place, digit, 0)
-        good &= digit <= 9
-        found += digit.astype(np.int64) * scale
-        scale *= 10
+    found, fine = _digits(words, end, np.clip(length, 0, WORD))
+    good &= fine
+    if len(length) and length.max() > WORD:
+        more, fine = _digits(words, end - WORD, np.clip(length - WORD, 0, WORD))
+        found += more * EIGHT_DIGITS
+        good &= fine
     good &= found <= lines.MOST
     return np.where(negative, -found, found), good
 
 
-def keys(text: Bytes, begin: Ints, end: Ints) -> tuple[Codes, Table, Bools]:
-    """The keys of fields, as codes into a table that has each key once, and which fields hold one."""
+def _digits(words: Words, end: Ints, length: Ints) -> tuple[Ints, Bools]:
+    """The number that the last bytes before `end` are, at most eight, and whether all of them are digits.
+
+    A word of eight digits is made of pairs, then fours, then eight, each by one multiplication for all.
+    """
+    mask = LAST_BYTES[length]
+    word = (words[end + (MARGIN - WORD)] & mask) | (ZEROS & ~mask)
+    fine = ((word & HIGH_HALVES) == ZEROS) & (((word + SIXES) & HIGH_HALVES) == ZEROS)
+    word = word - ZEROS
+    word = word * np.uint64(10) + (word >> np.uint64(8))
+    pairs = np.uint64(0x000000FF000000FF)
+    low = (word & pairs) * np.uint64(0x000F424000000064)
+    high = ((word >> np.uint64(16)) & pairs) * np.uint64(0x0000271000000001)
+    return ((low + high) >> np.uint64(32)).astype(np.int64), fine
+
+
+def keys(words: Words, begin: Ints, end: Ints) -> tuple[Codes, Table, Bools]:
+    """The keys of fields, as codes into a table that has each once, and which fields hold one."""
     length = end - begin
-    good = (length >= 1) & (length <= lines.LONGEST_KEY)
+    inside = (length >= 1) & (length <= lines.LONGEST_KEY)
+    length = np.where(inside, length, 0)
     if len(begin) == 0:
-        return np.zeros(0, dtype=np.int64), NO_KEYS, good
-    width = max(8, -(-int(length[good].max(initial=0)) // 8) * 8)
-    allowed = np.zeros(256, dtype=bool)
-    allowed[list(lines.KEY_BYTES)] = True
-    letters = np.zeros((len(begin), width), dtype=np.uint8)
-    for place in range(int(length[good].max(initial=0))):
-        inside = good & (length > place)
-        byte = text[np.where(inside, begin + place, 0)]
-        letters[:, place] = np.where(inside, byte, 0)
-        good &= allowed[byte] | ~inside
-    words = letters.view(np.uint64)
-    codes = pd.factorize(words[:, 0])[0].astype(np.int64)
-    for place in range(1, width // 8):
-        more, names = pd.factorize(words[:, place])
-        codes = pd.factorize(codes * len(names) + more)[0].astype(np.int64)
+        return np.zeros(0, dtype=np.int64), NO_KEYS, inside
+    count = max(1, -(-int(length.max()) // WORD))
+    parts = [words[begin + (MARGIN + WORD * part)] & FIRST_BYTES[np.clip(length - WORD * part, 0, WORD)] for part in range(count)]
+    codes = pd.factorize(parts[0])[0]
+    for part in parts[1:]:
+        more, names = pd.factorize(part)
+        codes = pd.factorize(codes * np.int64(len(names)) + more)[0]
     firsts = np.zeros(int(codes.max()) + 1, dtype=np.int64)
     firsts[codes[::-1]] = np.arange(len(codes))[::-1]
-    return codes, letters[firsts].view(f"S{width}").ravel().astype(f"S{LONGEST}"), good
-
-
-def _read(spans: Spans, commas: Ints, first: Ints, count: Ints, line: Ints) -> tuple[Parsed, Bools]:
-    """The events of lines with three to six fields, whose commas begin at `first`, and which of them are good."""
-    padded = np.append(commas, np.zeros(6, dtype=np.int64))
-    stops = [np.where(count > place, padded[first + place], spans.end) for place in range(6)]
-    ts, good = numbers(spans.text, spans.begin, stops[0])
-    code, table, fine = keys(spans.text, stops[0] + 1, stops[1])
-    good &= fine
-    values = []
-    for place in range(4):
-        column = np.zeros(len(line), dtype=np.int64)
-        there = np.flatnonzero(count > place + 1)
-        column[there], fine = numbers(spans.text, stops[place + 1][there] + 1, stops[place + 2][there])
-        good[there] &= fine
-        values.append(column)
-    return Parsed(0, line, ts, code, table, (values[0], values[1], values[2], values[3]), None), good
-
-
-def _kept(found: Parsed, good: NDArray) -> Parsed:
-    """The events at these places."""
-    a, b, c, d = (column[good] for column in found.values)
-    return replace(found, line=found.line[good], ts=found.ts[good], code=found.code[good], values=(a, b, c, d))
-
-
-def _with_others(found: Parsed, data: bytes, spans: Spans, others: Ints) -> Parsed:
-    """The block with the events of the other lines, up to the first bad one."""
-    events: list[tuple[int, lines.EventLine]] = []
-    for place in others.tolist():
-        read = lines.read_event(data[spans.begin[place] : spans.end[place]])
-        if isinstance(read, lines.Fault):
-            return replace(found, fault=LineFault(place + 1, read.number))
-        if read is not None:
-            events.append((place + 1, read))
-    if not events:
-        return found
-    table, code = joined_tables([found.table, table_of([event.key for _, event in events])], [found.code, np.arange(len(events))])
-    line = np.append(found.line, [number for number, _ in events])
-    ts = np.append(found.ts, [event.ts for _, event in events])
-    a, b, c, d = (np.append(found.values[place], [event.values[place] for _, event in events]) for place in range(4))
-    return _kept(replace(found, line=line, ts=ts, code=code, table=table, values=(a, b, c, d)), np.argsort(line, kind="stable"))
+    letters = np.stack([part[firsts] for part in parts], axis=1).astype("<u8")
+    allowed = np.zeros(256, dtype=bool)
+    allowed[[0, *lines.KEY_BYTES]] = True
+    fine = allowed[letters.view(np.uint8)].all(axis=1)
+    table = letters.view(f"S{WORD * count}").ravel().astype(f"S{LONGEST}")
+    return codes.astype(np.int64), table, inside & fine[codes]

@@ -6,7 +6,7 @@ The rules are those of docs/DEFINITIONS.md, "Multiples and windows" and "Frames"
 
 from __future__ import annotations
 
-from dataclasses import dataclass, replace
+from dataclasses import dataclass
 from typing import Iterable, Mapping, Sequence
 
 import numpy as np
@@ -15,29 +15,32 @@ from numpy.typing import NDArray
 
 from jet_dask.flow import Events
 from jet_dask.job import Window
-from jet_dask.keys import NO_KEYS, Codes, Table, joined_tables, partitions, sorted_table
+from jet_dask.keys import NO_KEYS, Table, joined_tables, partitions, sorted_table
 
 Ints = NDArray[np.int64]
 Place = tuple[int, int]
 
 LIMB = 32
 LIMB_MASK = (1 << LIMB) - 1
-SUMS = ["count", "low", "middle", "high"]
+COUNTED = 1 << 16
+PLACES = ("window", "end", "code")
+SUMS = ("count", "low", "middle", "high")
+COLUMNS = (*PLACES, *SUMS, "least", "greatest")
 
 
 @dataclass(frozen=True)
 class Frames:
-    """Frames as a table with the columns window (its number), end, code (the key's place in `keys`), count, low, middle and high of the
-    sum, least and greatest."""
+    """Frames as columns: window (its number), end, code (the key's place in `keys`), count, low, middle and high of the sum, least and
+    greatest."""
 
-    cells: pd.DataFrame
+    cells: Mapping[str, Ints]
     keys: Table
 
     def taken(self, places: NDArray) -> Frames:
         """The frames at these places, with the keys in use alone, in order."""
-        cells = self.cells.take(places)
-        keys, code = sorted_table(self.keys, cells["code"].to_numpy())
-        return Frames(cells.assign(code=code), keys)
+        cells = {name: column[places] for name, column in self.cells.items()}
+        keys, code = sorted_table(self.keys, cells["code"])
+        return Frames({**cells, "code": code}, keys)
 
 
 def frames_of(flows: Mapping[int, Events], windows: Sequence[Window]) -> Frames:
@@ -46,54 +49,70 @@ def frames_of(flows: Mapping[int, Events], windows: Sequence[Window]) -> Frames:
 
 
 def _frames(entering: Events, window: Window) -> Frames:
-    kept = entering.taken(np.flatnonzero(~entering.behind))
-    value = kept.values[0]
-    columns = {
-        "window": np.full(len(value), window.number, dtype=np.int64),
-        "end": (kept.ts // window.slide + 1) * window.slide,
-        "code": kept.code,
-        "count": np.ones(len(value), dtype=np.int64),
-        "low": value & LIMB_MASK,
-        "middle": value >> LIMB,
-        "high": np.zeros(len(value), dtype=np.int64),
-        "least": value,
-        "greatest": value,
+    kept = entering.taken(np.flatnonzero(~entering.behind)) if entering.behind.any() else entering
+    unit = kept.ts // window.slide + 1
+    order, starts = groups(unit, kept.code, len(kept.table))
+    value, firsts = kept.values[0][order], order[starts]
+    if len(starts) == 0:
+        return Frames({name: np.zeros(0, dtype=np.int64) for name in COLUMNS}, kept.table)
+    sums = {
+        "count": np.diff(np.append(starts, len(value))),
+        "low": np.add.reduceat(value & LIMB_MASK, starts),
+        "middle": np.add.reduceat(value >> LIMB, starts),
+        "high": np.zeros(len(starts), dtype=np.int64),
     }
-    return Frames(pd.DataFrame(columns), kept.table)
+    cells = {
+        "window": np.full(len(starts), window.number, dtype=np.int64),
+        "end": unit[firsts] * window.slide,
+        "code": kept.code[firsts],
+        **carried(sums),
+        "least": np.minimum.reduceat(value, starts),
+        "greatest": np.maximum.reduceat(value, starts),
+    }
+    return Frames(cells, kept.table)
 
 
 def merged(parts: Sequence[Frames]) -> Frames:
     """One frame for each window, end and key, of all frames with these; in no order."""
-    keys, code = joined_tables([each.keys for each in parts], [each.cells["code"].to_numpy() for each in parts])
-    keys, code = sorted_table(keys, code) if len(code) else (NO_KEYS, code)
-    cells = pd.concat([each.cells for each in parts], ignore_index=True).assign(code=code)
-    group, firsts = _groups(cells, len(keys))
-    grouped = cells.groupby(group, sort=True)
-    answer = cells.loc[firsts, ["window", "end", "code"]].reset_index(drop=True)
-    sums = _carried(grouped[SUMS].sum())
-    return Frames(answer.assign(**sums, least=grouped["least"].min(), greatest=grouped["greatest"].max()), keys)
+    keys, code = joined_tables([each.keys for each in parts], [each.cells["code"] for each in parts])
+    if len(code) == 0:
+        return Frames({name: np.zeros(0, dtype=np.int64) for name in COLUMNS}, NO_KEYS)
+    keys, code = sorted_table(keys, code)
+    cells = {name: np.concatenate([each.cells[name] for each in parts]) for name in COLUMNS}
+    windows, names = pd.factorize(cells["window"])
+    order, starts = groups(cells["end"], code * len(names) + windows, len(keys) * len(names))
+    ordered = {name: column[order] for name, column in {**cells, "code": code}.items()}
+    places = {name: ordered[name][starts] for name in PLACES}
+    sums = carried({name: np.add.reduceat(ordered[name], starts) for name in SUMS})
+    least = np.minimum.reduceat(ordered["least"], starts)
+    greatest = np.maximum.reduceat(ordered["greatest"], starts)
+    return Frames({**places, **sums, "least": least, "greatest": greatest}, keys)
 
 
-def _groups(cells: pd.DataFrame, keys: int) -> tuple[Codes, Codes]:
-    """The number of each frame's group, in the order in which groups are met, and the first frame of each group."""
-    ends, names = pd.factorize(cells["end"])
-    pairs, more = pd.factorize(ends * np.int64(keys) + cells["code"].to_numpy())
-    windows, all_windows = pd.factorize(cells["window"])
-    group = pd.factorize(pairs * np.int64(len(all_windows)) + windows)[0].astype(np.int64)
-    firsts = np.zeros(int(group.max(initial=-1)) + 1, dtype=np.int64)
-    firsts[group[::-1]] = np.arange(len(group))[::-1]
-    return group, firsts
+def groups(one: Ints, other: Ints, count: int) -> tuple[Ints, Ints]:
+    """An order in which those with the same two numbers stand side by side, and where each group begins in it; the second number is
+    at least 0 and below `count`."""
+    if len(one) == 0:
+        return np.zeros(0, dtype=np.int64), np.zeros(0, dtype=np.int64)
+    least = int(one.min())
+    numbers = one - least if int(one.max()) - least < COUNTED else pd.factorize(one)[0]
+    pair = numbers * np.int64(count) + other
+    if int(pair.max()) >= COUNTED:
+        pair = pd.factorize(pair)[0]
+    # numbers of 16 bits are sorted by counting
+    order = np.argsort(pair.astype(np.uint16) if int(pair.max()) < COUNTED else pair, kind="stable")
+    pair = pair[order]
+    return order, np.flatnonzero(np.append(True, pair[1:] != pair[:-1]))
 
 
-def _carried(sums: pd.DataFrame) -> dict[str, Ints]:
-    """The sums with low and middle between 0 and 2^32 again."""
-    low, middle, high = (sums[name].to_numpy() for name in ("low", "middle", "high"))
-    middle = middle + (low >> LIMB)
+def carried(sums: Mapping[str, Ints]) -> dict[str, Ints]:
+    """The count, and the sum with low and middle between 0 and 2^32 again."""
+    middle = sums["middle"] + (sums["low"] >> LIMB)
     return {
-        "count": sums["count"].to_numpy(),
-        "low": low & LIMB_MASK,
+        "count": sums["count"],
+        "low": sums["low"] & LIMB_MASK,
         "middle": middle & LIMB_MASK,
-        "high": high + (middle >> LIMB),
+        "high": sums["high"] + (middle >> LIMB),
     }
 
 
@@ -104,13 +123,13 @@ def pieces(frames: Frames, windows: Iterable[Window], bounds: Sequence[int], buc
     which covers it.
     """
     reach = {window.number: window.size - window.slide for window in windows}
-    end = frames.cells["end"].to_numpy()
-    last_end = end + frames.cells["window"].map(reach).to_numpy(dtype=np.int64)
+    end, window = frames.cells["end"], frames.cells["window"]
+    last_end = end + sum(np.where(window == number, length, 0) for number, length in reach.items())
     first = np.searchsorted(bounds, end)
     times = np.searchsorted(bounds, last_end) - first + 1
     origin = np.repeat(np.arange(len(end)), times)
     span = first[origin] + np.arange(len(origin)) - np.repeat(np.cumsum(times) - times, times)
-    bucket = partitions(frames.keys)[frames.cells["code"].to_numpy()] % buckets
+    bucket = partitions(frames.keys)[frames.cells["code"]] % buckets
     place = span * buckets + bucket[origin]
     order = np.argsort(place, kind="stable")
     names, starts = np.unique(place[order], return_index=True)

@@ -7,9 +7,8 @@ import contextlib
 import logging
 import os
 import sys
-from typing import BinaryIO, Iterator, NoReturn, Optional, Sequence
+from typing import BinaryIO, Callable, Iterator, NoReturn, Optional, Sequence
 
-import dask
 from distributed import Client, Future, KilledWorker, LocalCluster, progress
 
 from jet_dask import faults, program
@@ -57,9 +56,8 @@ def main(words: Sequence[str]) -> int:
         if asked.check:
             program.judge("check", asked.job)
         text = program.job_text(asked.job)
-        with outlet(asked.out) as out, client(asked.scheduler, asked.processes) as dask_client:
-            run_job(dask_client, text, os.getcwdb(), Sizes(block=asked.blocks), out)
-            sys.stdout.buffer.flush()
+        with notes_alone() as notes, outlet(asked.out, notes) as out, client(asked.scheduler, asked.processes, notes) as workers:
+            run_job(workers, text, os.getcwdb(), Sizes(block=asked.blocks), out)
     except Stopped as stopped:
         return told(stopped.line, stopped.status)
     except MemoryError:
@@ -79,10 +77,25 @@ def told(line: str, status: int) -> int:
 
 
 @contextlib.contextmanager
-def client(scheduler: Optional[str], processes: Optional[int]) -> Iterator[Client]:
+def notes_alone() -> Iterator[BinaryIO]:
+    """Standard error, for late lines and progress alone: what Dask and its processes would tell there goes nowhere meanwhile."""
+    sys.stderr.flush()
+    kept = os.dup(sys.stderr.fileno())
+    nowhere = os.open(os.devnull, os.O_WRONLY)
+    os.dup2(nowhere, sys.stderr.fileno())
+    os.close(nowhere)
+    try:
+        with os.fdopen(os.dup(kept), "wb", buffering=0) as notes:
+            yield notes
+    finally:
+        os.dup2(kept, sys.stderr.fileno())
+        os.close(kept)
+
+
+@contextlib.contextmanager
+def client(scheduler: Optional[str], processes: Optional[int], notes: BinaryIO) -> Iterator[Client]:
     """A client of a scheduler, or of processes of this machine that end with the run."""
-    logging.getLogger("distributed").setLevel(logging.ERROR)
-    dask.config.set({"distributed.logging.distributed": "error"})
+    logging.getLogger("distributed").setLevel(logging.CRITICAL)
     with contextlib.ExitStack() as stack:
         address: object = scheduler
         if scheduler is None:
@@ -93,21 +106,22 @@ def client(scheduler: Optional[str], processes: Optional[int]) -> Iterator[Clien
                     processes=True,
                     host="127.0.0.1",
                     dashboard_address="127.0.0.1:0",
-                    silence_logs=logging.ERROR,
+                    silence_logs=logging.CRITICAL,
                 )
             )
         found = stack.enter_context(Client(address, timeout="30s"))
-        if sys.stderr.isatty():
-            print(f"jet-dask: the dashboard, where bokeh is there: {found.dashboard_link}", file=sys.stderr)
+        if notes.isatty():
+            notes.write(f"jet-dask: the dashboard, where bokeh is there: {found.dashboard_link}\n".encode())
         yield found
 
 
 @contextlib.contextmanager
-def outlet(folder: Optional[str]) -> Iterator[Outlet]:
+def outlet(folder: Optional[str], notes: BinaryIO) -> Iterator[Outlet]:
     """Standard output and standard error; or a folder, made at the first late line or at the rows, with a file for late lines and one
     for each range of ends."""
+    watch = bar(notes)
     if folder is None:
-        yield Outlet(writer(sys.stderr.buffer, "notes"), writer(sys.stdout.buffer, "rows"), None, watch)
+        yield Outlet(writer(notes, "notes"), writer(sys.stdout.buffer, "rows"), None, watch)
         return
     path = os.fsencode(os.path.abspath(folder))
     if os.path.exists(path) and (not os.path.isdir(path) or os.listdir(path)):
@@ -135,12 +149,14 @@ class FolderLate:
             raise faults.outside("write", "notes") from None
 
 
-def writer(stream: BinaryIO, name: str):
+def writer(stream: BinaryIO, name: str) -> Callable[[bytes], None]:
     """Writes texts to a stream, whole."""
 
     def write(text: bytes) -> None:
+        left = memoryview(text)
         try:
-            stream.write(text)
+            while left:
+                left = left[stream.write(left) :]
             stream.flush()
         except OSError:
             raise faults.outside("write", name) from None
@@ -148,10 +164,14 @@ def writer(stream: BinaryIO, name: str):
     return write
 
 
-def watch(name: str, futures: Sequence[Future]) -> None:
-    """Dask's own bar of a step, where standard error is a terminal."""
-    if futures and sys.stderr.isatty():
-        with contextlib.redirect_stdout(sys.stderr):
-            print(f"jet-dask: {name}, {len(futures)} tasks", file=sys.stderr)
-            progress(list(futures), notebook=False)
-            print(file=sys.stderr)
+def bar(notes: BinaryIO) -> Callable[[str, Sequence[Future]], None]:
+    """Dask's own bar for each step, where standard error is a terminal."""
+
+    def watch(name: str, futures: Sequence[Future]) -> None:
+        if futures and notes.isatty():
+            notes.write(f"jet-dask: {name}, {len(futures)} tasks\n".encode())
+            with open(os.dup(notes.fileno()), "w", encoding="ascii") as terminal, contextlib.redirect_stdout(terminal):
+                progress(list(futures), notebook=False)
+            notes.write(b"\n")
+
+    return watch

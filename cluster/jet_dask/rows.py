@@ -13,7 +13,7 @@ import numpy as np
 from numpy.typing import NDArray
 
 from jet_dask.flow import Events
-from jet_dask.frames import LIMB, LIMB_MASK, Frames, exact_sums
+from jet_dask.frames import SUMS, Frames, carried, exact_sums
 from jet_dask.job import Window
 from jet_dask.keys import Codes, Table
 
@@ -62,14 +62,14 @@ def runs(frames: Frames, windows: Sequence[Window]) -> list[Runs]:
 
 
 def _runs(frames: Frames, window: Window) -> Runs:
-    mine = frames.cells[frames.cells["window"].to_numpy() == window.number]
-    order = np.lexsort((mine["end"].to_numpy(), mine["code"].to_numpy()))
-    mine = mine.take(order)
-    code, unit = mine["code"].to_numpy(), mine["end"].to_numpy() // window.slide
+    mine = np.flatnonzero(frames.cells["window"] == window.number)
+    mine = mine[np.lexsort((frames.cells["end"][mine], frames.cells["code"][mine]))]
+    cells = {name: column[mine] for name, column in frames.cells.items()}
+    code, unit = cells["code"], cells["end"] // window.slide
     stop = unit + window.size // window.slide
     same = np.append(code[1:] == code[:-1], False) if len(code) else np.zeros(0, dtype=bool)
     following = np.append(unit[1:], 0) if len(unit) else unit
-    return Runs(window, code, unit, np.where(same, np.minimum(stop, following), stop), Frames(mine, frames.keys))
+    return Runs(window, code, unit, np.where(same, np.minimum(stop, following), stop), Frames(cells, frames.keys))
 
 
 def rows_up_to(all_runs: Sequence[Runs], low: int, high: int) -> int:
@@ -81,17 +81,25 @@ def cuts(all_runs: Sequence[Runs], low: int, high: int, most: int) -> list[int]:
     """Ends that part the rows above `low` and up to `high`, so that those between two have at most so many rows, or one end alone;
     `high` is the last of them."""
     found: list[int] = []
-    while rows_up_to(all_runs, low, high) > most:
-        fits, beyond = low, high
-        while beyond - fits > 1:
-            middle = (fits + beyond) // 2
-            if rows_up_to(all_runs, low, middle) > most:
-                beyond = middle
-            else:
-                fits = middle
-        low = fits if rows_up_to(all_runs, low, fits) > 0 else beyond
+    first = min(int(run.unit.min(initial=ABOVE_ALL // run.window.slide)) * run.window.slide for run in all_runs)
+    last = max(int(run.stop.max(initial=BELOW_ALL // run.window.slide)) * run.window.slide for run in all_runs)
+    low, last = max(low, first - 1), min(high, last)
+    while rows_up_to(all_runs, low, last) > most:
+        low = _cut(all_runs, low, last, most)
         found.append(low)
     return [*found, high] if not found or found[-1] < high else found
+
+
+def _cut(all_runs: Sequence[Runs], low: int, high: int, most: int) -> int:
+    """The greatest end up to which there are at most so many rows above `low`; or else the end of the first one."""
+    fits, beyond = low, high
+    while beyond - fits > 1:
+        middle = (fits + beyond) // 2
+        if rows_up_to(all_runs, low, middle) > most:
+            beyond = middle
+        else:
+            fits = middle
+    return fits if rows_up_to(all_runs, low, fits) > 0 else beyond
 
 
 def rows_between(run: Runs, low: int, high: int) -> Rows:
@@ -100,18 +108,14 @@ def rows_between(run: Runs, low: int, high: int) -> Rows:
     last = np.repeat(np.arange(len(count)), count)
     unit = first[last] + np.arange(len(last)) - np.repeat(np.cumsum(count) - count, count)
     begin = _first_covered(run, last, unit)
-    sums = {name: _differences(run.frames.cells[name].to_numpy(), begin, last) for name in ("count", "low", "middle", "high")}
-    middle = sums["middle"] + (sums["low"] >> LIMB)
+    cells = run.frames.cells
     return Rows(
         window=np.full(len(last), run.window.number, dtype=np.int64),
         end=unit * run.window.slide,
         code=run.code[last],
-        count=sums["count"],
-        low=sums["low"] & LIMB_MASK,
-        middle=middle & LIMB_MASK,
-        high=sums["high"] + (middle >> LIMB),
-        least=_extremes(run.frames.cells["least"].to_numpy(), begin, last, np.minimum),
-        greatest=_extremes(run.frames.cells["greatest"].to_numpy(), begin, last, np.maximum),
+        **carried({name: _differences(cells[name], begin, last) for name in SUMS}),
+        least=_extremes(cells["least"], begin, last, np.minimum),
+        greatest=_extremes(cells["greatest"], begin, last, np.maximum),
     )
 
 

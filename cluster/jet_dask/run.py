@@ -1,8 +1,8 @@
 """A run of a job on the workers of a Dask scheduler.
 
 The driver keeps numbers for each block and each range, and hands on texts one at a time; lines, frames and rows stay with the
-workers. The order of the work: side files and a first pass over all blocks, which finds bad lines and the greatest time before each
-block; a second pass, whose frames are added by range of ends and bucket of keys; rows, range by range.
+workers. The order of the work: side files and a first pass over all blocks, which finds the greatest time before each
+block; a second pass, which finds bad lines, and whose frames are added by range of ends and bucket of keys; rows, range by range.
 """
 
 from __future__ import annotations
@@ -32,12 +32,14 @@ PICKS, MERGES, ROWS = 1, 2, 3
 @dataclass(frozen=True)
 class Sizes:
     """How the work is cut; no row depends on it. `block` is in bytes, `events` is about how many a range of ends has, `rows` how many
-    are made at once, `parts` how many lists of frames are added in one task."""
+    are made at once, `parts` how many lists of frames are added in one task, and `buckets` in how many buckets for each thread of the
+    workers the partitions of keys are put."""
 
     block: int = 1 << 24
     events: int = 1_000_000
     rows: int = 200_000
     parts: int = 8
+    buckets: int = 2
 
 
 @dataclass(frozen=True)
@@ -68,34 +70,55 @@ class Scanned:
     before: stages.Before
 
 
+@dataclass(frozen=True)
+class Pass:
+    """The tasks of the second pass: the added frames of each range and bucket, and late lines and a report for each block."""
+
+    merged: dict[Place, Future]
+    late: list[Future]
+    reports: list[Future]
+
+
 def run_job(client: Client, text: bytes, here: bytes, sizes: Sizes, outlet: Outlet) -> None:
     """Runs the job of a text that `jet plan` has found valid, whose file names are taken from the folder `here`; `Stopped` tells how
     else it ended, and then nothing was written but where a write failed."""
-    Run(client, text, read_job(text), here, sizes, outlet).run()
+    buckets = min(PARTITIONS, sizes.buckets * thread_count(client))
+    Run(client, text, read_job(text), here, sizes, buckets, outlet).run()
+
+
+def thread_count(client: Client) -> int:
+    """How many threads the workers have now; it may change while a run goes on."""
+    return max(1, sum(client.nthreads().values()))
 
 
 @dataclass(frozen=True)
 class Run:
-    """One run."""
+    """One run; `buckets` is in how many buckets the partitions of keys are put, from its beginning to its end."""
 
     client: Client
     text: bytes
     task: Job
     here: bytes
     sizes: Sizes
+    buckets: int
     outlet: Outlet
 
     def run(self) -> None:
         """All steps in order; nothing is written before the last."""
         sources, sides = self.opened(self.task.sources()), self.opened(self.task.sides())
         side_rows = [self.submit(stages.read_side, file.data, file.path, self.task.lines) for file in sides]
-        scanned = self.scanned(sources, sides, side_rows)
+        side_faults = self.mapped(stages.side_fault, side_rows)
+        scanned = self.scanned(sources)
         bounds = bounds_of([each.scan for each in scanned], self.task.windows(), self.sizes.events)
-        setup = self.submit(stages.make_setup, self.text, side_rows, bounds, self.buckets())
-        merged, late = self.framed(scanned, setup, bounds)
-        for future in late:
-            self.outlet.late(future.result())
-        self.write(merged, setup, bounds)
+        setup = self.submit(stages.make_setup, self.text, side_rows, bounds, self.buckets)
+        second = self.framed(scanned, setup, bounds)
+        reports = self.waited("second pass", second.reports)
+        self.judge(scanned, reports, sides, side_faults)
+        self.outlet.watch("frames", list(second.merged.values()))
+        for future, report in zip(second.late, reports):
+            if report.late:
+                self.outlet.late(future.result())
+        self.write(second.merged, setup, bounds)
 
     def submit(self, function: Callable, *words: object, priority: int = 0) -> Future:
         """A task of its own."""
@@ -110,10 +133,6 @@ class Run:
         self.outlet.watch(name, futures)
         return self.client.gather(list(futures))
 
-    def buckets(self) -> int:
-        """In how many buckets the partitions are put: two for each thread of the workers."""
-        return min(PARTITIONS, 2 * max(1, sum(self.client.nthreads().values())))
-
     def opened(self, files: Iterable[DataFile]) -> list[File]:
         """The files in order, each opened once so that a missing one is told before anything is read."""
         found = []
@@ -125,67 +144,65 @@ class Run:
                 raise faults.outside("open", f"part {data.part}") from None
         return found
 
-    def scanned(self, sources: Sequence[File], sides: Sequence[File], side_rows: Futures) -> list[Scanned]:
-        """The first pass: each block with what comes before it, unless a line is bad."""
+    def scanned(self, sources: Sequence[File]) -> list[Scanned]:
+        """The first pass: each block with what comes before it."""
         blocks = [cut_file(file.data.part, file.path, file.size, self.sizes.block) for file in sources]
         futures = self.mapped(stages.scan_block, [block for each in blocks for block in each])
-        side_faults = self.mapped(stages.side_fault, side_rows)
         scans = iter(self.waited("first pass", futures))
         found = []
         for file, mine in zip(sources, blocks):
             each = [next(scans) for _ in mine]
-            if fault := first_fault(each, self.task.lines):
-                raise faults.bad_line(file.data.part, fault)
             found.extend(Scanned(*row) for row in zip(mine, each, befores(file.data.vertex, each)))
-        for file, fault in zip(sides, self.client.gather(side_faults)):
-            if fault is not None:
-                raise faults.bad_line(file.data.part, fault)
         return found
 
-    def framed(self, scanned: Sequence[Scanned], setup: Future, bounds: tuple[int, ...]) -> tuple[dict[Place, Future], list[Future]]:
-        """The second pass: the frames of each range and bucket, added, and the late lines of the blocks that have any."""
-        framed = self.mapped(
-            stages.frame_block,
-            [each.block for each in scanned],
-            [each.before for each in scanned],
-            [setup] * len(scanned),
-        )
+    def framed(self, scanned: Sequence[Scanned], setup: Future, bounds: tuple[int, ...]) -> Pass:
+        """The second pass over all blocks, whose frames are added for each range and bucket."""
+        blocks, befores = [each.block for each in scanned], [each.before for each in scanned]
+        framed = self.mapped(stages.frame_block, blocks, befores, [setup] * len(scanned))
         picked = [
             (future, (number, bucket))
             for each, future in zip(scanned, framed)
             for number in touched(bounds, each.scan, self.task.windows())
-            for bucket in range(self.buckets())
+            for bucket in range(self.buckets)
         ]
-        parts = self.mapped(stages.pick, [future for future, _ in picked], [place for _, place in picked], priority=PICKS)
+        places = [place for _, place in picked]
+        parts = self.mapped(stages.pick, [future for future, _ in picked], places, priority=PICKS)
         late = self.mapped(stages.pick_late, framed, priority=PICKS)
-        reports = self.mapped(stages.report, framed, priority=PICKS)
-        merged = self.merged([place for _, place in picked], parts)
-        del framed, picked, parts
-        told = self.waited("second pass", reports)
-        for each, (lines, greatest, _) in zip(scanned, told):
-            if (lines, greatest) != (each.scan.lines, each.scan.greatest if each.scan.events else None):
+        reports = self.mapped(stages.pick_report, framed, priority=PICKS)
+        return Pass(self.merged(places, parts), late, reports)
+
+    def judge(self, scanned: Sequence[Scanned], reports: Sequence[stages.Report], sides: Sequence[File], side_faults: Futures) -> None:
+        """Stops at the first bad line of the first file that has one; or where a block is not what it was in the first pass."""
+        for part in range(len(self.task.sources())):
+            mine = [report for each, report in zip(scanned, reports) if each.block.part == part]
+            if fault := first_fault(mine, self.task.lines):
+                raise faults.bad_line(part, fault)
+        for file, side_fault in zip(sides, self.client.gather(side_faults)):
+            if side_fault is not None:
+                raise faults.bad_line(file.data.part, side_fault)
+        for each, report in zip(scanned, reports):
+            greatest = each.scan.greatest if each.scan.events else None
+            if (report.lines, report.greatest) != (each.scan.lines, greatest):
                 raise faults.outside("read", f"part {each.block.part}")
-        self.outlet.watch("frames", list(merged.values()))
-        return merged, [future for future, (_, _, length) in zip(late, told) if length]
 
     def merged(self, places: Sequence[Place], parts: Futures) -> dict[Place, Future]:
         """One task for each range and bucket, which adds a few lists of frames at a time."""
         lists: dict[Place, list[Future]] = {}
         for place, future in zip(places, parts):
             lists.setdefault(place, []).append(future)
-        while True:
-            few = self.sizes.parts
+        few = self.sizes.parts
+        while any(len(mine) > 1 for mine in lists.values()):
             groups = [(place, mine[at : at + few]) for place, mine in lists.items() for at in range(0, len(mine), few)]
-            merges = self.mapped(stages.merge, [group for _, group in groups], priority=MERGES)
+            several = [group for _, group in groups if len(group) > 1]
+            merges = iter(self.mapped(stages.merge, several, priority=MERGES))
             lists = {}
-            for (place, _), future in zip(groups, merges):
-                lists.setdefault(place, []).append(future)
-            if all(len(mine) == 1 for mine in lists.values()):
-                return {place: mine[0] for place, mine in lists.items()}
+            for place, group in groups:
+                lists.setdefault(place, []).append(next(merges) if len(group) > 1 else group[0])
+        return {place: mine[0] for place, mine in lists.items()}
 
     def write(self, merged: dict[Place, Future], setup: Future, bounds: tuple[int, ...]) -> None:
         """The rows, range by range: as one text, or each range to its file."""
-        width = 2 * max(1, len(self.client.nthreads()))
+        width = 2 * thread_count(self.client)
         if self.outlet.folder is None:
             for future in ahead(self.texts(merged, setup, bounds, width), width):
                 self.outlet.rows(future.result())
@@ -196,7 +213,7 @@ class Run:
     def numbered_runs(self, merged: dict[Place, Future], setup: Future, bounds: tuple[int, ...]) -> Iterator[tuple[int, Future]]:
         """The runs of each range that may have frames, with its number. The frames are let go with the last of its tasks."""
         for number in sorted({number for number, _ in merged}):
-            parts = [merged.pop((number, bucket)) for bucket in range(self.buckets()) if (number, bucket) in merged]
+            parts = [merged.pop((number, bucket)) for bucket in range(self.buckets) if (number, bucket) in merged]
             yield number, self.submit(stages.range_runs, parts, setup, priority=ROWS)
 
     def texts(self, merged: dict[Place, Future], setup: Future, bounds: tuple[int, ...], width: int) -> Iterator[Future]:
@@ -230,13 +247,13 @@ def file_size(path: bytes, part: int) -> int:
     return found.st_size
 
 
-def first_fault(scans: Sequence[Scan], most: int) -> Optional[LineFault]:
+def first_fault(reports: Sequence[stages.Report], most: int) -> Optional[LineFault]:
     """The first bad line of a file of at most so many lines, of which these are the blocks in order."""
     before = 0
-    for scan in scans:
-        if scan.fault and before + scan.fault.line <= most:
-            return LineFault(before + scan.fault.line, scan.fault.number)
-        before += scan.lines
+    for report in reports:
+        if report.fault and before + report.fault.line <= most:
+            return LineFault(before + report.fault.line, report.fault.number)
+        before += report.lines
         if before > most:
             return LineFault(most + 1, TOO_MANY)
     return None

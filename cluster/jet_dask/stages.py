@@ -41,17 +41,28 @@ class Before:
 
 
 @dataclass(frozen=True)
+class Report:
+    """What the driver needs to know of a block behind the second pass: its first bad line, how many lines it has, its greatest time, and
+    how long its late lines are."""
+
+    fault: Optional[LineFault]
+    lines: int
+    greatest: Optional[int]
+    late: int
+
+
+@dataclass(frozen=True)
 class Framed:
-    """What the second pass makes of a block: frames by range and bucket, late lines, and the scan of the block as it is now."""
+    """What the second pass makes of a block: frames by range and bucket, and late lines, or the first bad line; and what it tells of
+    the block as it is now."""
 
     pieces: Mapping[Place, Frames]
     late: bytes
-    lines: int
-    greatest: Optional[int]
+    report: Report
 
 
 def scan_block(block: blocks.Block) -> blocks.Scan:
-    """The first pass: lines, times, and the first bad line."""
+    """The first pass: lines and times."""
     try:
         return blocks.scan(block)
     except OSError:
@@ -79,11 +90,14 @@ def make_setup(text: bytes, sides: Sequence[SideFile], bounds: tuple[int, ...], 
 
 
 def frame_block(block: blocks.Block, before: Before, setup: Setup) -> Framed:
-    """The second pass: what the block's events bring to each window."""
+    """The second pass: what the block's events bring to each window, and the first bad line."""
     try:
         parsed = blocks.parse_block(block)
     except OSError:
         raise faults.outside("read", f"part {block.part}") from None
+    greatest = int(parsed.ts.max()) if len(parsed.ts) else None
+    if parsed.fault:
+        return Framed({}, b"", Report(parsed.fault, parsed.lines, greatest, 0))
     kind = setup.task.vertices[before.vertex].kind
     lag = kind.lag if isinstance(kind, job.Source) else 0
     behind = was_behind(parsed.ts, before.greatest, lag, setup.task.grain())
@@ -92,7 +106,7 @@ def frame_block(block: blocks.Block, before: Before, setup: Setup) -> Framed:
     windows = setup.task.windows()
     late = b"".join(rows.late_text(flows[window.entry], window.name, before.first_line) for window in windows)
     found = frames.pieces(frames.frames_of(flows, windows), windows, setup.bounds, setup.buckets)
-    return Framed(found, late, parsed.lines, int(parsed.ts.max()) if len(parsed.ts) else None)
+    return Framed(found, late, Report(None, parsed.lines, greatest, len(late)))
 
 
 def was_behind(ts: np.ndarray, greatest: Optional[int], lag: int, grain: int) -> np.ndarray:
@@ -118,15 +132,15 @@ def pick_late(framed: Framed) -> bytes:
     return framed.late
 
 
-def report(framed: Framed) -> tuple[int, Optional[int], int]:
-    """How many lines the block has, its greatest time, and how long its late lines are."""
-    return framed.lines, framed.greatest, len(framed.late)
+def pick_report(framed: Framed) -> Report:
+    """What the second pass tells of a block."""
+    return framed.report
 
 
 def merge(parts: Sequence[Optional[Frames]]) -> Optional[Frames]:
     """The frames of all parts, added."""
     there = [each for each in parts if each is not None]
-    return frames.merged(there) if there else None
+    return frames.merged(there) if len(there) > 1 else there[0] if there else None
 
 
 def range_runs(parts: Sequence[Optional[Frames]], setup: Setup) -> list[rows.Runs]:

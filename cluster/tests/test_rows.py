@@ -3,9 +3,11 @@
 from __future__ import annotations
 
 import json
+import os
 import random
 import tempfile
 import unittest
+from concurrent.futures import ThreadPoolExecutor
 from pathlib import Path
 
 from distributed import Client
@@ -13,11 +15,12 @@ from distributed import Client
 import definition
 import random_jobs
 from jet_dask.run import Sizes
-from support import TOP, jet, local_cluster, put, run, window_job
+from support import TOP, Written, jet, local_cluster, put, run, window_job
 
-RANDOM_JOBS = 300
+RANDOM_JOBS = int(os.environ.get("JET_RANDOM_JOBS", "300"))
 RANDOM_WINDOWS = 40
 CHECKED_EACH = 5
+AT_ONCE = 4
 EXAMPLES = sorted(path for path in TOP.glob("examples/*/job.json"))
 
 
@@ -37,10 +40,9 @@ class Rows(unittest.TestCase):
         cls.cluster.close()
         cls.folder.cleanup()
 
-    def agrees(self, job: Path, here: Path, sizes: Sizes) -> None:
-        """A run gives what the definition says."""
+    def agrees(self, job: Path, here: Path, found: Written) -> None:
+        """A run gave what the definition says."""
         wanted = definition.run(json.loads(job.read_bytes()), lambda name: (here / name).read_bytes())
-        found = run(self.client, job, here, sizes)
         self.assertEqual(found.line, wanted.bad or "")
         self.assertEqual(found.status, 4 if wanted.bad else 0)
         self.assertEqual(found.rows.decode(), wanted.rows)
@@ -52,7 +54,7 @@ class Rows(unittest.TestCase):
         for job in EXAMPLES:
             for block in (7, 64, 1 << 20):
                 with self.subTest(job=job.parent.name, block=block):
-                    self.agrees(job, TOP, Sizes(block=block, events=3, rows=4, parts=2))
+                    self.agrees(job, TOP, run(self.client, job, TOP, Sizes(block=block, events=3, rows=4, parts=2)))
 
     def test_example_windows(self) -> None:
         """Every example of `window` gives the outputs that stand beside it; of a bad line the status and its line, and no row."""
@@ -78,19 +80,22 @@ class Rows(unittest.TestCase):
             self.assertEqual(found.rows + found.late, b"")
 
     def test_random_jobs(self) -> None:
-        """Random jobs and files; some of them are shown to `jet check` too, for its status and line."""
-        for seed in range(RANDOM_JOBS):
-            case, rng = random_jobs.case(seed), random.Random(seed)
-            longest = max([1, *map(len, case.files.values())])
-            with self.subTest(seed=seed):
-                here = self.room / f"job{seed}"
-                job = put(here, case.job, case.files)
-                sizes = Sizes(rng.choice([longest, max(20, longest // 3)]), rng.choice([5, 1000]), rng.choice([1, 7, 1000]), rng.choice([2, 8]))
-                self.agrees(job, here, sizes)
-                if seed % CHECKED_EACH == 0:
-                    checked = jet("check", "job.json", here=here)
-                    found = run(self.client, job, here, Sizes())
-                    self.assertEqual((found.status, found.line), (checked.returncode, checked.stderr.decode().rstrip("\n")))
+        """Random jobs and files, a few side by side; some of them are shown to `jet check` too, for its status and line."""
+        with ThreadPoolExecutor(AT_ONCE) as pool:
+            for seed, (job, found) in enumerate(pool.map(self.random_job, range(RANDOM_JOBS))):
+                with self.subTest(seed=seed):
+                    self.agrees(job, job.parent, found)
+                    if seed % CHECKED_EACH == 0:
+                        checked = jet("check", "job.json", here=job.parent)
+                        self.assertEqual((found.status, found.line), (checked.returncode, checked.stderr.decode().rstrip("\n")))
+
+    def random_job(self, seed: int) -> tuple[Path, Written]:
+        """A random job, run in blocks and ranges of random sizes."""
+        case, rng = random_jobs.case(seed), random.Random(seed)
+        longest = max([1, *map(len, case.files.values())])
+        job = put(self.room / f"job{seed}", case.job, case.files)
+        block, events, rows = rng.choice([longest, max(20, longest // 3)]), rng.choice([8, 1000]), rng.choice([5, 1000])
+        return job, run(self.client, job, job.parent, Sizes(block, events, rows, parts=rng.choice([2, 8]), buckets=1))
 
     def test_random_windows(self) -> None:
         """Random files under `jet window`, whose rows and late lines are those of a run, in the same order."""
