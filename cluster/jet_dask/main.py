@@ -9,11 +9,12 @@ import os
 import sys
 from typing import BinaryIO, Callable, Iterator, NoReturn, Optional, Sequence
 
-from distributed import Client, Future, KilledWorker, LocalCluster, progress
+from distributed import Client, Future, KilledWorker, progress
 
 from jet_dask import faults, program
 from jet_dask.faults import Stopped
 from jet_dask.run import Outlet, Sizes, run_job
+from jet_dask.workers import local_workers
 
 USAGE = "jet-dask run JOB [--scheduler HOST:PORT] [--processes N] [--blocks BYTES] [--out FOLDER] [--check]"
 USAGE_STATUS = 2
@@ -99,16 +100,7 @@ def client(scheduler: Optional[str], processes: Optional[int], notes: BinaryIO) 
     with contextlib.ExitStack() as stack:
         address: object = scheduler
         if scheduler is None:
-            address = stack.enter_context(
-                LocalCluster(
-                    n_workers=processes or os.cpu_count() or 1,
-                    threads_per_worker=1,
-                    processes=True,
-                    host="127.0.0.1",
-                    dashboard_address="127.0.0.1:0",
-                    silence_logs=logging.CRITICAL,
-                )
-            )
+            address = stack.enter_context(local_workers(processes or os.cpu_count() or 1, "127.0.0.1:0"))
         found = stack.enter_context(Client(address, timeout="30s"))
         if notes.isatty():
             notes.write(f"jet-dask: the dashboard, where bokeh is there: {found.dashboard_link}\n".encode())

@@ -145,7 +145,7 @@ class Run:
         return found
 
     def scanned(self, sources: Sequence[File]) -> list[Scanned]:
-        """The first pass: each block with what comes before it."""
+        """The first pass: each block in which a line begins, with what comes before it."""
         blocks = [cut_file(file.data.part, file.path, file.size, self.sizes.block) for file in sources]
         futures = self.mapped(stages.scan_block, [block for each in blocks for block in each])
         scans = iter(self.waited("first pass", futures))
@@ -153,7 +153,7 @@ class Run:
         for file, mine in zip(sources, blocks):
             each = [next(scans) for _ in mine]
             found.extend(Scanned(*row) for row in zip(mine, each, befores(file.data.vertex, each)))
-        return found
+        return [each for each in found if each.scan.lines]
 
     def framed(self, scanned: Sequence[Scanned], setup: Future, bounds: tuple[int, ...]) -> Pass:
         """The second pass over all blocks, whose frames are added for each range and bucket."""

@@ -83,9 +83,11 @@ def side_fault(side: SideFile) -> Optional[LineFault]:
 
 
 def make_setup(text: bytes, sides: Sequence[SideFile], bounds: tuple[int, ...], buckets: int) -> Setup:
-    """What the second pass needs, from the job's text and its side files in the order of their numbers."""
+    """What the second pass needs, from the job's text and its side files in the order of their numbers. One with a bad line counts as
+    empty, since that line ends the run behind the second pass."""
     task = job.read_job(text)
-    tables = {file.vertex: flow.side_table(side.rows) for file, side in zip(task.sides(), sides) if isinstance(side, blocks.SideRows)}
+    rows_of = [side.rows if isinstance(side, blocks.SideRows) else () for side in sides]
+    tables = {file.vertex: flow.side_table(found) for file, found in zip(task.sides(), rows_of)}
     return Setup(task, tables, bounds, buckets)
 
 

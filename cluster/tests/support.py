@@ -3,14 +3,13 @@
 from __future__ import annotations
 
 import json
-import logging
 import os
 import subprocess
 from dataclasses import dataclass, field
 from pathlib import Path
 from typing import Any, Callable, Optional, Sequence
 
-from distributed import Client, Future, LocalCluster
+from distributed import Client, Future
 
 from jet_dask.faults import Stopped
 from jet_dask.run import Outlet, Sizes, run_job
@@ -35,19 +34,6 @@ class Written:
 
 def quiet(name: str, futures: Sequence[Future]) -> None:
     """Watches nothing."""
-
-
-def local_cluster(workers: int = 2) -> LocalCluster:
-    """So many processes of one thread, on the loopback, without a dashboard."""
-    logging.getLogger("distributed").setLevel(logging.CRITICAL)
-    return LocalCluster(
-        n_workers=workers,
-        threads_per_worker=1,
-        processes=True,
-        host="127.0.0.1",
-        dashboard_address=None,
-        silence_logs=logging.CRITICAL,
-    )
 
 
 def run(

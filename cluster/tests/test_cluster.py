@@ -18,7 +18,8 @@ from distributed import Client, Future
 import definition
 import random_jobs
 from jet_dask.run import Sizes
-from support import TOP, jet, local_cluster, put, run, window_job
+from jet_dask.workers import local_workers
+from support import TOP, jet, put, run, window_job
 
 COMMAND = TOP / "cluster" / "jet-dask"
 KILL_LINES = 300
@@ -41,7 +42,7 @@ class Killed(unittest.TestCase):
         text = random_jobs.telemetry(random.Random(3), KILL_LINES, False)
         wanted = definition.run(window_job("t.csv", 40, 5, 10), lambda _: text)
         killed: list[int] = []
-        with tempfile.TemporaryDirectory() as folder, local_cluster() as cluster, Client(cluster) as client:
+        with tempfile.TemporaryDirectory() as folder, local_workers(2) as cluster, Client(cluster) as client:
             job = put(Path(folder) / "kill", window_job("t.csv", 40, 5, 10), {"t.csv": text})
 
             def watch(name: str, futures: Sequence[Future]) -> None:
@@ -73,16 +74,8 @@ class Command(unittest.TestCase):
 
     @classmethod
     def setUpClass(cls) -> None:
-        cls.cluster = local_cluster()
-        cls.client = Client(cls.cluster)
-        cls.folder = tempfile.TemporaryDirectory()
-        cls.room = Path(cls.folder.name)
-
-    @classmethod
-    def tearDownClass(cls) -> None:
-        cls.client.close()
-        cls.cluster.close()
-        cls.folder.cleanup()
+        cls.cluster = cls.enterClassContext(local_workers(2))
+        cls.room = Path(cls.enterClassContext(tempfile.TemporaryDirectory()))
 
     def jet_dask(self, *words: str, here: Path = TOP) -> subprocess.CompletedProcess[bytes]:
         """A call of the command."""

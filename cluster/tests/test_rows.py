@@ -15,7 +15,8 @@ from distributed import Client
 import definition
 import random_jobs
 from jet_dask.run import Sizes
-from support import TOP, Written, jet, local_cluster, put, run, window_job
+from jet_dask.workers import local_workers
+from support import TOP, Written, jet, put, run, window_job
 
 RANDOM_JOBS = int(os.environ.get("JET_RANDOM_JOBS", "300"))
 RANDOM_WINDOWS = 40
@@ -29,16 +30,8 @@ class Rows(unittest.TestCase):
 
     @classmethod
     def setUpClass(cls) -> None:
-        cls.cluster = local_cluster()
-        cls.client = Client(cls.cluster)
-        cls.folder = tempfile.TemporaryDirectory()
-        cls.room = Path(cls.folder.name)
-
-    @classmethod
-    def tearDownClass(cls) -> None:
-        cls.client.close()
-        cls.cluster.close()
-        cls.folder.cleanup()
+        cls.client = cls.enterClassContext(Client(cls.enterClassContext(local_workers(2))))
+        cls.room = Path(cls.enterClassContext(tempfile.TemporaryDirectory()))
 
     def agrees(self, job: Path, here: Path, found: Written) -> None:
         """A run gave what the definition says."""
@@ -113,19 +106,20 @@ class Rows(unittest.TestCase):
 
     def test_blocks(self) -> None:
         """Blocks from 1 byte to the whole file give the same text, and files of ranges give it too, one behind the other."""
-        text = random_jobs.telemetry(random.Random(7), 10, False)
+        text = random_jobs.telemetry(random.Random(7), 6, False)
         job = put(self.room / "blocks", window_job("t.csv", 20, 5, 3), {"t.csv": text})
         whole = run(self.client, job, job.parent, Sizes(block=len(text)))
         self.assertGreater(len(whole.rows), 0)
-        for block in [1, 2, 3, 11, 17, 31, 64, 100, len(text) - 1]:
+        for block in [1, 2, 11, 31, 64, len(text) - 1]:
             with self.subTest(block=block):
                 found = run(self.client, job, job.parent, Sizes(block=block, events=3))
                 self.assertEqual((found.rows, found.late), (whole.rows, whole.late))
-                folder = self.room / f"out{block}"
-                folder.mkdir()
-                run(self.client, job, job.parent, Sizes(block=max(block, 11), events=3, rows=2), folder)
-                files = sorted(folder.iterdir())
-                self.assertEqual(b"".join(file.read_bytes() for file in files), bytes(whole.rows))
+        folder = self.room / "out"
+        folder.mkdir()
+        run(self.client, job, job.parent, Sizes(block=64, events=3, rows=2), folder)
+        files = sorted(folder.iterdir())
+        self.assertGreater(len(files), 1)
+        self.assertEqual(b"".join(file.read_bytes() for file in files), bytes(whole.rows))
 
     def test_missing_files(self) -> None:
         """A file that can't be opened or read ends the run as it ends `jet check`."""
