@@ -1,0 +1,1 @@
+"""The job files of jet over Dask distributed: the same rows, compared by tests and not proved."""
