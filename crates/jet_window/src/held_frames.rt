@@ -67,7 +67,7 @@ impl HeldFrames {
         ensures ok { OnOk result (self.new ≡ joined_in self.old (end, key.now) acc.now) }
         ensures err { OnErr result (self.new ≡ self.old) }
     {
-        self.frames.keep(end, key, acc)?;
+        self.frames.put(end, key, acc)?;
         if is_up_to(&(end, *key), &self.reached) {
             self.reached = None;
             self.slides = BTreeMap::new(self.alloc);

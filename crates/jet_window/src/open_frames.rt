@@ -42,8 +42,27 @@ impl OpenFrames {
         }
     }
 
-    // Joins an accumulator into that of an end and a key.
+    // Joins an accumulator into that of an end and a key. Where there is one, it is looked for once.
     pub(crate) fn keep(&mut self, end: i64, key: &Key, acc: &Acc) -> Result<(), NoMemory>
+        requires { IsWithin most_frame_end end }
+        ensures ok { OnOk result (self.new ≡ joined_in self.old (end, key.now) acc.now) }
+        ensures err { OnErr result (self.new ≡ self.old) }
+    {
+        let place = (end, *key);
+        match self.accs.get_mut(&place) {
+            Some(held) => {
+                *held = held.join(acc);
+                Ok(())
+            }
+            None => {
+                self.accs.insert(place, *acc)?;
+                Ok(())
+            }
+        }
+    }
+
+    // The same, where most places are new: each is looked for once.
+    pub(crate) fn put(&mut self, end: i64, key: &Key, acc: &Acc) -> Result<(), NoMemory>
         requires { IsWithin most_frame_end end }
         ensures ok { OnOk result (self.new ≡ joined_in self.old (end, key.now) acc.now) }
         ensures err { OnErr result (self.new ≡ self.old) }

@@ -9,14 +9,14 @@ pub invariant_of-self-then-is_up_to : goal.invariant_of-self-then-is_up_to
 invariant_of-self-then-is_up_to c =
     let fits : FitsSigned w64 c.args.end = c.ranges.end in
     let k : Place = (c.args.end, c.args.key.now) in
-    let ok = simp to_z-of_z at c.in_ok-keep.ensures.ok in
-    (kept_joined k c.args.acc.now c.self.inside.frames _ c.self.invariant.0 c.requires ok, none_entered c.keep.new.self c.new.result.entries c.new.ensures.empty)
+    let ok = simp to_z-of_z at c.in_ok-put.ensures.ok in
+    (kept_joined k c.args.acc.now c.self.inside.frames _ c.self.invariant.0 c.requires ok, none_entered c.put.new.self c.new.result.entries c.new.ensures.empty)
 
 pub invariant_of-self-else-is_up_to : goal.invariant_of-self-else-is_up_to
 invariant_of-self-else-is_up_to c =
     let fits : FitsSigned w64 c.args.end = c.ranges.end in
     let k : Place = (c.args.end, c.args.key.now) in
-    let ok = simp to_z-of_z at c.in_ok-keep.ensures.ok in
+    let ok = simp to_z-of_z at c.in_ok-put.ensures.ok in
     let tested = simp to_z-of_z at c.is_up_to.ensures in
     let later : is_up_to c.self.inside.reached k ≡ false = sym tested ∙ c.if-is_up_to.false in
     (kept_joined k c.args.acc.now c.self.inside.frames _ c.self.invariant.0 c.requires ok, kept_behind c.self.inside.reached k c.args.acc.now c.self.inside.frames _ c.self.inside.slides.entries ok later c.self.invariant.1)
