@@ -67,7 +67,7 @@ job_checked c told calls first later calls_are job h order turns =
 pub turns_all : (c : Checks) (told : Told) (files : List (ℕ × DataFile)) (turns : List Turn) → AllZip (λ p t. IsTurnOf c p (content_of told p.1) t) files turns → HaveTurns c told files turns
 turns_all c told files [] h = tt
 turns_all c told [] (u ∷ turns) h = absurd h
-turns_all c told (q ∷ files) (u ∷ []) h = inr h.0.reads
+turns_all c told (q ∷ files) (u ∷ []) h = record { wanted = h.0.wanted; order = inr h.0.reads }
 turns_all c told (q ∷ files) (u ∷ v ∷ turns) h = (h.0, turns_all c told files (v ∷ turns) h.1)
 
 -- ---- from the reading of the job file on
@@ -96,7 +96,7 @@ module _ (k : Checks) (old mid : Told) (kept : mid.content ≡ old.content) (wri
   turns_same : (ps : List (ℕ × DataFile)) (turns : List Turn) → HaveTurns k mid ps turns → HaveTurns k old ps turns
   turns_same ps [] h = tt
   turns_same [] (t ∷ turns) h = absurd h
-  turns_same (p ∷ ps) (t ∷ []) h = subst (λ (ct : List ℕ → Option (List ℕ)). BeginsTurn (unwrap_or (ct (file_name p.1)) []) t) kept h
+  turns_same (p ∷ ps) (t ∷ []) h = subst (λ (ct : List ℕ → Option (List ℕ)). BeginsTurn k p (unwrap_or (ct (file_name p.1)) []) t) kept h
   turns_same (p ∷ ps) (t ∷ u ∷ turns) h = (subst (λ (ct : List ℕ → Option (List ℕ)). IsTurnOf k p (unwrap_or (ct (file_name p.1)) []) t) kept h.0, turns_same ps (u ∷ turns) h.1)
 
   -- a number that is new behind the job file's is new

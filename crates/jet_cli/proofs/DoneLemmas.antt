@@ -1,7 +1,8 @@
 -- What a run over a whole file comes to: what Done says, and which line is the first bad one.
-use Rattle.jet_cli.proofs.PaceLemmas.{same_head, same_tail}
+use Rattle.jet_worker.proofs.CallLemmas.{cancel, same_head, same_tail}
+use Rattle.jet_cli.proofs.ReadPlaces.{ready_opened}
 use Rattle.jet_file.specs.Pace.{IsPaced, Source, taken_by, wrote_by, rows_until}
-use Rattle.jet_cli.specs.Pacing.{HasPaced, KeepsPace, base_ahead, base_mark, base_source}
+use Rattle.jet_cli.specs.Pacing.{HasPaced, KeepsPace, ReadsReady, base_ahead, base_mark, base_source}
 use Rattle.std.proofs.Common.{◌≡◌, ℕ, zero, suc, ◌+◌, List, [], ◌∷◌, ◌++◌, length, Bool, true, false, not, cond, Option, Some, None, refl, ap, sym, ◌∙◌, subst, arith, append-nil, All, pos, ℤ, ◌-ℤ◌, ◌≤ℤ◌, ◌≤◌, ◌≢◌, append_assoc}
 use Rattle.std.specs.Prelude.{codes, IsSome, Any, ◌==◌, IfSome, IsSomeAnd, int_le}
 use Rattle.std.specs.Option.{option_map_or}
@@ -129,11 +130,12 @@ Keeps c table calls s = (before after : List CallMade) (n : ℕ) → calls ≡ b
     → IfSome (s.mark (taken_by s.file before)) (λ m. length (rows_text (base_window c ∷ []) (rows_until (m -ℤ base_ahead) table)) ≤ wrote_by Rows before)
 
 pub pace_is : (c : WindowCommand) (file : ℕ) (before now : ℕ → Bool) (old start new : Told) (bytes content : List ℕ) (closed : Option ℤ) (table : List RowValue)
-    → OpensFile c.file file old start → AddsNumber file before now → HasPaced c file bytes closed table start new → rest_of start file ≡ content → All (λ r. r.vertex ≡ 2) table
+    → OpensFile c.file file old start → AddsNumber file before now → (h : HasPaced c file bytes closed table start new) → ReadsReady c (rest_of start file) file h.calls → rest_of start file ≡ content → All (λ r. r.vertex ≡ 2) table
     → KeepsPace c content table before now old new
-pace_is c file before now old start new bytes content closed table opens adds h whole at = record {
+pace_is c file before now old start new bytes content closed table opens adds h ready whole at = record {
   calls = Opened c.file file ∷ h.calls;
   opens = (refl, h.quiet);
+  ready = ready_opened c file old start h.calls opens ready;
   trace = h.trace ∙ ap (λ (l : List CallMade). l ++ h.calls) opens.trace ∙ append_assoc old.trace (Opened c.file file ∷ []) h.calls;
   paced = λ other fresh added named.
       subst (λ (f : ℕ). IsPaced (base_window c ∷ []) (base_source c content f ∷ []) base_ahead table (Opened c.file file ∷ h.calls)) (sym (added_one file other before now adds fresh added))
@@ -157,7 +159,7 @@ pace_is c file before now old start new bytes content closed table opens adds h 
 -- ---- what Done says
 pub done_is : (c : WindowCommand) (file : ℕ) (before now : ℕ → Bool) (old start new : Told) (bytes rows : List ℕ) (given : List (List ℕ)) (table : List RowValue)
     → OpensFile c.file file old start → AddsNumber file before now
-    → HasRun file bytes true rows (base_late_text (late_among c (events_in most_lines 0 given))) start new
+    → HasRun c file bytes true rows (base_late_text (late_among c (events_in most_lines 0 given))) start new
     → rows ≡ base_rows_text c table
     → ((more : List ℕ) → (true ≡ true → more ≡ []) → lines_of (bytes ++ more) ≡ given ++ lines_of ([] ++ more))
     → are_good (event_line 0) most_lines given ≡ true
@@ -193,7 +195,8 @@ done_is c file before now old start new bytes rows given table opens adds run ro
       notes_written = run.notes_written ∙ ap (λ w. w Notes ++ base_late_text (late_among c (events_in most_lines 0 given))) opens.written
           ∙ ap (λ (es : List EventValue). old.written Notes ++ base_late_text (late_among c es)) events;
       headline = head;
-      pace = pace_is c file before now old start new bytes content closed table opens adds paced (opened_rest c.file content file old start found.1 opens) (vertices c (kept_among c (base_events content)) table all2);
+      pace = pace_is c file before now old start new bytes content closed table opens adds paced
+          (subst (ReadsReady c (rest_of start file) file) (cancel start.trace run.calls paced.calls (sym run.trace ∙ paced.trace)) run.ready) (opened_rest c.file content file old start found.1 opens) (vertices c (kept_among c (base_events content)) table all2);
       kept = run.content ∙ opens.content;
       exact = All-cons (λ (k : Inflow). All (λ (e : EventValue). base_behind c content e ≡ false) k.events) (record { window = base_window c; events = kept_among c (base_events content) }) [] (kept_not_behind c content) (All-nil (λ (k : Inflow). All (λ (e : EventValue). base_behind c content e ≡ false) k.events));
     }

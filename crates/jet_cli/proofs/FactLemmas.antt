@@ -72,11 +72,11 @@ base_halted_of (Err halt) c old now same untold untouched h = base_halted c old 
 base_calls : (c : WindowCommand) (before after : ℕ → Bool) (old now : Option Told) (r : Result (Unit {0}) Halt) (same : Type 0) → (same → now ≡ old) → OnOk r (WhereTold (IsDone c before after) old now) → IfErr r (λ halt. IsRefusal halt → same)
     → IfErr r (BaseHalts c old now) → WhereTold (Calling (IsInOrder (WindowOf c))) old now
 base_calls c before after old now (Ok d) same untold done untouched halt =
-    goes_weaker (IsDone c before after) (Calling (IsInOrder (WindowOf c))) (λ a b h. record { calls = h.pace.calls; trace = h.pace.trace; did = h.pace.opens }) old now done
+    goes_weaker (IsDone c before after) (Calling (IsInOrder (WindowOf c))) (λ a b h. record { calls = h.pace.calls; trace = h.pace.trace; did = (h.pace.opens, h.pace.ready) }) old now done
 base_calls c before after old now (Err (Refused why)) same untold done untouched halt =
-    subst (λ (n : Option Told). WhereTold (Calling (IsInOrder (WindowOf c))) old n) (sym (untold (untouched tt))) (goes_same (Calling (IsInOrder (WindowOf c))) (λ a. record { calls = []; trace = sym (append-nil a.trace); did = tt }) old)
+    subst (λ (n : Option Told). WhereTold (Calling (IsInOrder (WindowOf c))) old n) (sym (untold (untouched tt))) (goes_same (Calling (IsInOrder (WindowOf c))) (λ a. record { calls = []; trace = sym (append-nil a.trace); did = (tt, λ content file is opened. absurd (cc opened)) }) old)
 base_calls c before after old now (Err (Stopped stop)) same untold done untouched halt =
-    goes_weaker (Calling (RunStops c stop)) (Calling (IsInOrder (WindowOf c))) (λ a b h. record { calls = h.calls; trace = h.trace; did = h.did.opens }) old now halt.0
+    goes_weaker (Calling (RunStops c stop)) (Calling (IsInOrder (WindowOf c))) (λ a b h. record { calls = h.calls; trace = h.trace; did = (h.did.opens, h.did.ready) }) old now halt.0
 
 -- what is begun where nothing is said of it
 begun_none : (c : WindowCommand) (old now : Option Told) (r : Result (Unit {0}) Halt) → WhereTold (Calling (IsInOrder (WindowOf c))) old now → IfErr r (Begun (WindowOf c) old now)

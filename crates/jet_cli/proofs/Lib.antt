@@ -20,6 +20,7 @@ pub mod PaceLemmas
 pub mod PartLemmas
 pub mod PartsOfAnswers
 pub mod ProgressLemmas
+pub mod ReadPlaces
 pub mod ReadSpellings
 pub mod RunLemmas
 pub mod SpellingLemmas

@@ -9,15 +9,14 @@ use Rattle.jet_policy.specs.MarkerValue.{MarkerValue}
 use Rattle.jet_window.specs.Plain.{PlainValue}
 use Rattle.jet_cli.specs.Counting.{Counts, mark_after}
 use Rattle.jet_cli.specs.inner.Ending.{Ends}
-use Rattle.jet_worker.specs.Calls.{ReadsOrWrites}
 use Rattle.jet_worker.specs.Feeding.{Appends, Flushes, StopsAppending}
-use Rattle.jet_worker.proofs.CallLemmas.{none_writes}
 use Rattle.jet_cli.specs.inner.Finished.{Finished}
-use Rattle.jet_cli.specs.LineStops.{IsBadLineAt, LineStop, StepStops}
+use Rattle.jet_cli.specs.LineStops.{IsBadLineAt, IsWrote, LineStop, StepStops}
 use Rattle.jet_cli.specs.inner.Progress.{TookLine, base_rows_text}
 use Rattle.jet_worker.specs.Stopping.{IsNoBadLine, IsWriting, LastIs}
 use Rattle.jet_cli.specs.inner.Took.{Took, Prints, late_text_of}
 use Rattle.jet_cli.specs.Words.{WindowCommand}
+use Rattle.jet_cli.proofs.ReadPlaces.{all_wrote}
 use Rattle.jet_cli.proofs.TookLemmas.{stays}
 use Rattle.std.proofs.lemmas.List.Elements.{All-append, All-nil}
 use Rattle.jet_cli.specs.declared.counter.WindowCounter.{WindowCounter}
@@ -54,7 +53,7 @@ wrote_event c events e table n line now next old mid new read took prints no_row
 appending_stops : (rows notes : List ℕ) (stop : Stop) (a b : Told) → StopsAppending rows notes stop a b → StepStops IsWriting stop a b
 appending_stops rows notes stop a b h = record {
   calls = map (Wrote Notes) h.note_lengths ++ map (Wrote Rows) h.row_lengths;
-  quiet = All-append ReadsOrWrites (map (Wrote Notes) h.note_lengths) (map (Wrote Rows) h.row_lengths) (none_writes Notes h.note_lengths) (none_writes Rows h.row_lengths);
+  wrote = All-append IsWrote (map (Wrote Notes) h.note_lengths) (map (Wrote Rows) h.row_lengths) (all_wrote Notes h.note_lengths) (all_wrote Rows h.row_lengths);
   last = h.last;
   fails = h.fails;
   trace = h.trace ∙ ap (λ (l : List CallMade). l ++ h.last) (append_assoc a.trace (map (Wrote Notes) h.note_lengths) (map (Wrote Rows) h.row_lengths));
@@ -71,7 +70,7 @@ write_stops rows notes n line now next (Err NoMemory) told never = (goes_weaker 
 -- a stop that touched no outside
 pub stands : (n : ℕ) (line : List ℕ) (now : Option Told) (stop : Stop) → LastIs IsWriting stop [] → IsBadLineAt n line stop → LineStop n line now now stop
 stands n line now stop none bad =
-    (goes_same (StepStops IsWriting stop) (λ a. record { calls = []; quiet = All-nil ReadsOrWrites; last = []; fails = none; trace = sym (append-nil (a.trace ++ []) ∙ append-nil a.trace) }) now, bad)
+    (goes_same (StepStops IsWriting stop) (λ a. record { calls = []; wrote = All-nil IsWrote; last = []; fails = none; trace = sym (append-nil (a.trace ++ []) ∙ append-nil a.trace) }) now, bad)
 
 same_none : (a : List RowValue) → a ≡ a ++ []
 same_none a = sym (append-nil a)

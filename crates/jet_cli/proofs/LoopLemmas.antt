@@ -1,7 +1,7 @@
 -- The steps of the loop over a file's lines.
 use Rattle.jet_cli.proofs.PaceLemmas.{goes_paced_appends}
 use Rattle.jet_cli.specs.Pacing.{HasPaced}
-use Rattle.std.proofs.Common.{◌≡◌, ℕ, ◌+◌, ◌<◌, ◌≤◌, List, [], ◌++◌, length, Bool, true, false, Option, Some, None, Result, Ok, Err, refl, ap, sym, ◌∙◌, subst, append-nil, All, OnOk, pos, ℤ, map}
+use Rattle.std.proofs.Common.{◌≡◌, ℕ, ◌+◌, ◌<◌, ◌≤◌, List, [], ◌++◌, length, Bool, true, false, Option, Some, None, Result, Ok, Err, refl, ap, sym, ◌∙◌, subst, append-nil, All, OnOk, pos, ℤ}
 use Rattle.std.proofs.lemmas.List.Elements.{All-nil}
 use Rattle.std.specs.Prelude.{IfErr, MatchResult, codes}
 use Rattle.std.proofs.lemmas.Grind.{flat_map-append}
@@ -14,20 +14,22 @@ use Rattle.jet_lines.specs.LinesValue.{LinesValue}
 use Rattle.jet_lines.specs.declared.cut.Cut.TheVariants as cut
 use Rattle.jet_lines.specs.declared.fault.LineFault.{LineFault}
 use Rattle.jet_file.specs.Text.{row_line}
-use Rattle.jet_file.specs.Outside.{Told, WhereTold, Read, OpensFile, AddsNumber, LacksFile}
+use Rattle.jet_file.specs.Outside.{Told, CallMade, WhereTold, Reading, OpensFile, AddsNumber, LacksFile}
 use Rattle.jet_file.proofs.GoesLemmas.{goes_same, goes_then, goes_weaker}
 use Rattle.jet_cli.specs.Counting.{Counts, late_among, mark_after}
 use Rattle.jet_cli.specs.Done.{IsDone}
 use Rattle.jet_cli.specs.inner.Ending.{Ends}
-use Rattle.jet_worker.specs.Calls.{Calling, ReadsOrWrites}
-use Rattle.jet_worker.specs.Feeding.{PutsPiece, StopsReads, TakesPiece}
-use Rattle.jet_worker.proofs.CallLemmas.{last_weaker, none_reads, write_in}
-use Rattle.jet_cli.specs.LineStops.{LineStop, IsBadIn, IsBadLineAt, RunStops, StepStops}
+use Rattle.jet_worker.specs.Calls.{Calling}
+use Rattle.jet_worker.specs.Feeding.{FailsAt, PutsPiece, TakesPiece}
+use Rattle.jet_worker.proofs.CallLemmas.{last_weaker, write_in}
+use Rattle.jet_worker.proofs.FeedLemmas.{read_last}
+use Rattle.jet_cli.specs.LineStops.{LineStop, IsBadIn, IsBadLineAt, IsWrote, RunStops, StepStops}
 use Rattle.jet_cli.specs.inner.Progress.{HasRun, Progress, TookLine, base_rows_text, base_late_text}
 use Rattle.jet_worker.specs.Stopping.{IsCallIn, IsWriting, IsForOutside, IsNoBadLine, CauseOfStop, Outcome, OpenOutcome}
 use Rattle.jet_cli.specs.inner.Took.{Prints}
 use Rattle.jet_cli.specs.Words.{WindowCommand}
 use Rattle.jet_cli.specs.declared.counter.WindowCounter.{WindowCounter}
+use Rattle.jet_worker.specs.declared.stop.Call.TheVariants as call
 use Rattle.jet_worker.specs.declared.stop.Spot.TheVariants.{Part}
 use Rattle.jet_worker.specs.declared.stop.Stop.{Stop}
 use Rattle.jet_worker.specs.declared.stop.Stop.TheVariants.{BadLine, Outside, NoMemory}
@@ -64,13 +66,13 @@ pub stops_at_cut : (c : WindowCommand) (file : ℕ) (old start now : Option Told
     → Progress c file start now lines w → NextIs lines (cut.Bad n why) lines' → WhereTold (OpensFile c.file file) old start → WhereTold (Calling (RunStops c (BadLine 0 n why))) old now
 stops_at_cut c file old start now lines lines' w n why p bad opens =
     goes_run_stops c file p.bytes lines.ended (base_rows_text c p.table) (base_late_text (late_among c (events_in most_lines 0 p.given))) (BadLine 0 n why) old start now now
-    (bad_cut c file start now lines w p n 0 why lines' refl bad) opens p.told (goes_same (StepStops (IsCallIn (Part 0) file) (BadLine 0 n why)) (λ a. record { calls = []; quiet = All-nil ReadsOrWrites; last = []; fails = refl; trace = sym (append-nil (a.trace ++ []) ∙ append-nil a.trace) }) now)
+    (bad_cut c file start now lines w p n 0 why lines' refl bad) opens p.told (goes_same (StepStops (IsCallIn (Part 0) file) (BadLine 0 n why)) (λ a. record { calls = []; wrote = All-nil IsWrote; last = []; fails = refl; trace = sym (append-nil (a.trace ++ []) ∙ append-nil a.trace) }) now)
 
 -- a step that writes is one of any file
 of_writing : (file : ℕ) (stop : Stop) (now next : Option Told) → WhereTold (StepStops IsWriting stop) now next → WhereTold (StepStops (IsCallIn (Part 0) file) stop) now next
 of_writing file stop = goes_weaker (StepStops IsWriting stop) (StepStops (IsCallIn (Part 0) file) stop) (λ a b h. record {
   calls = h.calls;
-  quiet = h.quiet;
+  wrote = h.wrote;
   last = h.last;
   fails = last_weaker IsWriting (IsCallIn (Part 0) file) stop h.last (write_in (Part 0) file) h.fails;
   trace = h.trace;
@@ -89,13 +91,13 @@ none_bad (Outside call spot) h content = tt
 none_bad NoMemory h content = tt
 
 -- a read of the file stopped
-pub stops_read : (file : ℕ) (stop : Stop) (now next : Option Told) → WhereTold (StopsReads (Part 0) file stop) now next → WhereTold (StepStops (IsCallIn (Part 0) file) stop) now next
-stops_read file stop = goes_weaker (StopsReads (Part 0) file stop) (StepStops (IsCallIn (Part 0) file) stop) (λ a b h. record {
-  calls = map (Read file) h.counts;
-  quiet = none_reads file h.counts h.pieces;
+pub stops_read : (file : ℕ) (stop : Stop) (now next : Option Told) → WhereTold (FailsAt call.Read (Part 0) (Reading file) stop) now next → WhereTold (StepStops (IsCallIn (Part 0) file) stop) now next
+stops_read file stop = goes_weaker (FailsAt call.Read (Part 0) (Reading file) stop) (StepStops (IsCallIn (Part 0) file) stop) (λ a b h. record {
+  calls = [];
+  wrote = All-nil IsWrote;
   last = h.last;
-  fails = h.fails;
-  trace = h.trace;
+  fails = read_last (Part 0) file stop h.last h.is;
+  trace = ap (λ (t : Told). t.trace) h.same ∙ ap (λ (l : List CallMade). l ++ h.last) (sym (append-nil a.trace));
 })
 
 -- the run stops for another cause
@@ -123,17 +125,17 @@ goes_done : (c : WindowCommand) (file : ℕ) (before after : ℕ → Bool) (old 
     → (e : Ends c (events_in most_lines 0 p.given) p.table now next) → WhereTold (IsDone c before after) old next
 goes_done c file before after old start now next lines lines' w p end opens adds e =
     let events : List EventValue = events_in most_lines 0 p.given in
-    let run : WhereTold (HasRun file p.bytes lines.ended (base_rows_text c p.table ++ base_rows_text c e.more) (base_late_text (late_among c events) ++ [])) start next =
-    goes_writes file p.bytes lines.ended (base_rows_text c p.table) (base_late_text (late_among c events)) (base_rows_text c e.more) [] start now next p.told e.told in
-    let run2 : WhereTold (HasRun file p.bytes true (base_rows_text c p.table ++ base_rows_text c e.more) (base_late_text (late_among c events))) start next =
-    subst (λ (l : List ℕ). WhereTold (HasRun file p.bytes true (base_rows_text c p.table ++ base_rows_text c e.more) l) start next) (append-nil (base_late_text (late_among c events)))
-    (subst (λ (b : Bool). WhereTold (HasRun file p.bytes b (base_rows_text c p.table ++ base_rows_text c e.more) (base_late_text (late_among c events) ++ [])) start next) end.0 run) in
+    let run : WhereTold (HasRun c file p.bytes lines.ended (base_rows_text c p.table ++ base_rows_text c e.more) (base_late_text (late_among c events) ++ [])) start next =
+    goes_writes c file p.bytes lines.ended (base_rows_text c p.table) (base_late_text (late_among c events)) (base_rows_text c e.more) [] start now next p.told e.told in
+    let run2 : WhereTold (HasRun c file p.bytes true (base_rows_text c p.table ++ base_rows_text c e.more) (base_late_text (late_among c events))) start next =
+    subst (λ (l : List ℕ). WhereTold (HasRun c file p.bytes true (base_rows_text c p.table ++ base_rows_text c e.more) l) start next) (append-nil (base_late_text (late_among c events)))
+    (subst (λ (b : Bool). WhereTold (HasRun c file p.bytes b (base_rows_text c p.table ++ base_rows_text c e.more) (base_late_text (late_among c events) ++ [])) start next) end.0 run) in
     let rows : base_rows_text c p.table ++ base_rows_text c e.more ≡ base_rows_text c (p.table ++ e.more) = sym (flat_map-append (row_line (codes "w") (pos c.size)) p.table e.more) in
     let closed : Option ℤ = mark_after c events in
     let paced : WhereTold (HasPaced c file p.bytes closed (p.table ++ e.more)) start next = goes_paced_appends c file p.bytes closed closed p.table e.more [] start now next p.paced e.told e.closes in
-    goes_then (OpensFile c.file file) (λ a b. HasRun file p.bytes true (base_rows_text c p.table ++ base_rows_text c e.more) (base_late_text (late_among c events)) a b × HasPaced c file p.bytes closed (p.table ++ e.more) a b) (IsDone c before after)
+    goes_then (OpensFile c.file file) (λ a b. HasRun c file p.bytes true (base_rows_text c p.table ++ base_rows_text c e.more) (base_late_text (late_among c events)) a b × HasPaced c file p.bytes closed (p.table ++ e.more) a b) (IsDone c before after)
     (λ a b d o r. done_is c file before after a b d p.bytes (base_rows_text c p.table ++ base_rows_text c e.more) p.given (p.table ++ e.more) o adds r.0 rows
-    (λ more may. p.cut more (λ is. may refl) ∙ ap (λ (l : List ℕ). p.given ++ lines_of (l ++ more)) end.1) p.good e.all closed r.1) old start next opens (goes_both (HasRun file p.bytes true (base_rows_text c p.table ++ base_rows_text c e.more) (base_late_text (late_among c events))) (HasPaced c file p.bytes closed (p.table ++ e.more)) start next run2 paced)
+    (λ more may. p.cut more (λ is. may refl) ∙ ap (λ (l : List ℕ). p.given ++ lines_of (l ++ more)) end.1) p.good e.all closed r.1) old start next opens (goes_both (HasRun c file p.bytes true (base_rows_text c p.table ++ base_rows_text c e.more) (base_late_text (late_among c events))) (HasPaced c file p.bytes closed (p.table ++ e.more)) start next run2 paced)
 
 pub done_at_end : (c : WindowCommand) (file : ℕ) (before after : ℕ → Bool) (old start now next : Option Told) (lines lines' : LinesValue) (w : WindowCounter) (r : Result (Unit {0}) Stop)
     → Progress c file start now lines w → NextIs lines cut.End lines' → WhereTold (OpensFile c.file file) old start → AddsNumber file before after

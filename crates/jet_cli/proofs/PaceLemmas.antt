@@ -1,107 +1,29 @@
 -- That rows are written before the next read: what the calls of a run took and wrote, step by step.
 use Rattle.std.proofs.Common.{◌≡◌, ℕ, ◌+◌, ◌≤◌, List, [], ◌∷◌, ◌++◌, length, map, take, filter, Bool, true, false, cond, Option, Some, None, refl, ap, sym, ◌∙◌, subst, arith, append-nil, append_assoc, length-append, All, ℤ, pos, ◌-ℤ◌, ◌≤ℤ◌, ◌<ℤ◌, inl, inr, rules}
-use Rattle.std.specs.Prelude.{IfSome, IsSomeAnd, ◌⊎◌, flat_map, sum, int_le, codes}
+use Rattle.std.specs.Prelude.{IfSome, IsSomeAnd, ◌⊎◌, flat_map, int_le, codes}
+use Rattle.std.proofs.Math.Seq.{take-append_seam}
 use Rattle.std.proofs.lemmas.Grind.{flat_map-append}
 use Rattle.std.proofs.lemmas.Int.{ints}
 use Rattle.std.proofs.lemmas.List.Elements.{filter-append, All-append, All-head, All-nil, All-tail, All-weaker}
-use Rattle.std.proofs.lemmas.List.Sums.{sum_by-cons}
 use Rattle.jet_items.specs.Values.{RowValue}
 use Rattle.jet_lines.specs.LinesValue.{LinesValue}
-use Rattle.jet_file.specs.Outside.{Told, WhereTold, CallMade, Read, Wrote, Opened, Missed, rest_of}
+use Rattle.jet_file.specs.Outside.{Told, WhereTold, CallMade, Read, Wrote, rest_of}
 use Rattle.jet_file.specs.Pace.{taken_by, wrote_by, rows_until}
 use Rattle.jet_file.specs.Text.{row_line}
-use Rattle.jet_file.specs.declared.outside.Out.{Out}
 use Rattle.jet_file.specs.declared.outside.Out.TheVariants.{Rows, Notes}
 use Rattle.jet_file.proofs.PaceLemmas.{taken_by-append, wrote_by-append}
 use Rattle.jet_worker.specs.Calls.{ReadsOrWrites}
 use Rattle.jet_worker.specs.Feeding.{Appends, TakesPiece}
-use Rattle.jet_worker.proofs.CallLemmas.{none_reads, none_writes, one_piece}
+use Rattle.jet_worker.proofs.CallLemmas.{cancel, none_reads, none_writes, one_piece, split_last}
+use Rattle.jet_cli.proofs.ReadPlaces.{NoRead, none_splits, reads_none, reads_none_both, split_front, notes_in_rows, took_none, took_one, wrote_own}
 use Rattle.jet_cli.specs.Pacing.{HasPaced, base_ahead, base_mark}
 use Rattle.jet_cli.specs.inner.Progress.{base_rows_text}
 use Rattle.jet_cli.specs.Words.{WindowCommand}
-use Rattle.jet_cli.proofs.RunLemmas.{rest_stays, cancel}
+use Rattle.jet_cli.proofs.RunLemmas.{rest_stays}
 use Rattle.jet_file.proofs.GoesLemmas.{goes_then, goes_same}
 use Rattle.jet_lines.specs.Files.{events_in, most_lines, whole_lines}
 use Rattle.jet_cli.specs.Counting.{mark_after}
 use Rattle.jet_cli.specs.inner.Took.{ClosesOn}
-
--- ---- where a read stands among the calls
-abbrev NoRead : List CallMade → Type 0
-NoRead [] = Unit {0}
-NoRead (Read file n ∷ calls) = ⊥
-NoRead (Opened name file ∷ calls) = NoRead calls
-NoRead (Wrote to n ∷ calls) = NoRead calls
-NoRead (Missed tried ∷ calls) = NoRead calls
-
-reads_none : (to : Out) (lengths : List ℕ) → NoRead (map (Wrote to) lengths)
-reads_none to [] = tt
-reads_none to (n ∷ lengths) = reads_none to lengths
-
-reads_none_both : (xs ys : List CallMade) → NoRead xs → NoRead ys → NoRead (xs ++ ys)
-reads_none_both [] ys h k = k
-reads_none_both (Read file n ∷ xs) ys h k = absurd h
-reads_none_both (Opened name file ∷ xs) ys h k = reads_none_both xs ys h k
-reads_none_both (Wrote to n ∷ xs) ys h k = reads_none_both xs ys h k
-reads_none_both (Missed tried ∷ xs) ys h k = reads_none_both xs ys h k
-
-pub same_head : (x y : CallMade) (xs ys : List CallMade) → x ∷ xs ≡ y ∷ ys → x ≡ y
-same_head x y xs ys h = cc h
-
-pub same_tail : (x y : CallMade) (xs ys : List CallMade) → x ∷ xs ≡ y ∷ ys → xs ≡ ys
-same_tail x y xs ys h = cc h
-
-tail_none : (x : CallMade) (xs : List CallMade) → NoRead (x ∷ xs) → NoRead xs
-tail_none (Read file n) xs h = absurd h
-tail_none (Opened name file) xs h = h
-tail_none (Wrote to n) xs h = h
-tail_none (Missed tried) xs h = h
-
-none_splits : (ws before after : List CallMade) (file n : ℕ) → NoRead ws → ws ≡ before ++ Read file n ∷ after → ⊥
-none_splits [] [] after file n h e = cc e
-none_splits [] (b ∷ before) after file n h e = cc e
-none_splits (w ∷ ws) [] after file n h e = subst NoRead e h
-none_splits (w ∷ ws) (b ∷ before) after file n h e = none_splits ws before after file n (tail_none w ws h) (same_tail w b ws (before ++ Read file n ∷ after) e)
-
--- a read among calls with none behind them stands in front
-split_front : (xs ws before after : List CallMade) (file n : ℕ) → NoRead ws → xs ++ ws ≡ before ++ Read file n ∷ after → (later : List CallMade) × (xs ≡ before ++ Read file n ∷ later)
-split_front [] ws before after file n h e = absurd (none_splits ws before after file n h e)
-split_front (x ∷ xs) ws [] after file n h e = (xs, ap (λ (y : CallMade). y ∷ xs) (same_head x (Read file n) (xs ++ ws) after e))
-split_front (x ∷ xs) ws (b ∷ before) after file n h e =
-    let more = split_front xs ws before after file n h (same_tail x b (xs ++ ws) (before ++ Read file n ∷ after) e) in
-    let first : x ≡ b = same_head x b (xs ++ ws) (before ++ Read file n ∷ after) e in
-    (more.0, ap (λ (y : CallMade). y ∷ xs) first ∙ ap (λ (l : List CallMade). b ∷ l) more.1)
-
--- the last call, or one in front of it
-split_last : (xs before after : List CallMade) (x y : CallMade) → xs ++ x ∷ [] ≡ before ++ y ∷ after → (before ≡ xs) ⊎ ((later : List CallMade) × (xs ≡ before ++ y ∷ later))
-split_last [] [] after x y e = inl refl
-split_last [] (b ∷ []) after x y e = absurd (cc (same_tail x b [] (y ∷ after) e))
-split_last [] (b ∷ d ∷ before) after x y e = absurd (cc (same_tail x b [] (d ∷ (before ++ y ∷ after)) e))
-split_last (z ∷ xs) [] after x y e = inr (xs, ap (λ (w : CallMade). w ∷ xs) (same_head z y (xs ++ x ∷ []) after e))
-split_last (z ∷ xs) (b ∷ before) after x y e =
-    step (split_last xs before after x y (same_tail z b (xs ++ x ∷ []) (before ++ y ∷ after) e)) (same_head z b (xs ++ x ∷ []) (before ++ y ∷ after) e)
-  where
-    step : (before ≡ xs) ⊎ ((later : List CallMade) × (xs ≡ before ++ y ∷ later)) → z ≡ b → (b ∷ before ≡ z ∷ xs) ⊎ ((later : List CallMade) × (z ∷ xs ≡ b ∷ before ++ y ∷ later))
-    step (inl same) first = inl (ap (λ (w : CallMade). w ∷ before) (sym first) ∙ ap (λ (l : List CallMade). z ∷ l) same)
-    step (inr (later, is)) first = inr (later, ap (λ (w : CallMade). w ∷ xs) first ∙ ap (λ (l : List CallMade). b ∷ l) is)
-
--- ---- how many bytes calls moved
-wrote_rows : (lengths : List ℕ) → wrote_by Rows (map (Wrote Rows) lengths) ≡ sum lengths
-wrote_rows [] = refl
-wrote_rows (n ∷ lengths) = ap (λ (k : ℕ). n + k) (wrote_rows lengths) ∙ sym (sum_by-cons (λ (k : ℕ). k) n lengths)
-
-wrote_notes : (lengths : List ℕ) → wrote_by Rows (map (Wrote Notes) lengths) ≡ 0
-wrote_notes [] = refl
-wrote_notes (n ∷ lengths) = omega (arith, wrote_notes lengths)
-
-took_none : (file : ℕ) (calls : List CallMade) → NoRead calls → taken_by file calls ≡ 0
-took_none file [] h = refl
-took_none file (Read other n ∷ calls) h = absurd h
-took_none file (Opened name other ∷ calls) h = took_none file calls h
-took_none file (Wrote to n ∷ calls) h = took_none file calls h
-took_none file (Missed tried ∷ calls) h = took_none file calls h
-
-took_one : (file n : ℕ) → taken_by file (Read file n ∷ []) ≡ n
-took_one file n = grind arith
 
 -- ---- which rows a time has passed
 shorter : (p : RowValue → Bool) (f : RowValue → List ℕ) (rows : List RowValue) → length (flat_map f (filter p rows)) ≤ length (flat_map f rows)
@@ -129,10 +51,6 @@ until_more m ahead (Some t) table more a h k =
     ∙ ap (λ (rows : List RowValue). rows_until (m -ℤ ahead) table ++ rows)
     (filter_nothing (λ (r : RowValue). int_le r.end (m -ℤ ahead)) more (All-weaker (λ (r : RowValue). t <ℤ r.end) (λ (r : RowValue). int_le r.end (m -ℤ ahead) ≡ false) (λ r end. not_yet r.end m t ahead a h end) more k))
     ∙ append-nil (rows_until (m -ℤ ahead) table)
-
-take_front : (xs ys : List ℕ) → take (length xs) (xs ++ ys) ≡ xs
-take_front [] ys = refl
-take_front (x ∷ xs) ys = ap (λ (l : List ℕ). x ∷ l) (take_front xs ys)
 
 -- ---- the steps
 -- what a read saw stands where more rows were given that end after what was closed
@@ -174,7 +92,7 @@ pub paced_takes : (c : WindowCommand) (file : ℕ) (bytes piece : List ℕ) (clo
     → HasPaced c file (bytes ++ piece) closed table a d
 paced_takes c file bytes piece closed table x y a b d h t is now =
     let read : List CallMade = Read file (length t.piece) ∷ [] in
-    let front : take (length bytes) (rest_of a file) ≡ bytes = ap (take (length bytes)) h.rest ∙ take_front bytes (rest_of b file) in
+    let front : take (length bytes) (rest_of a file) ≡ bytes = ap (take (length bytes)) h.rest ∙ take-append_seam bytes (rest_of b file) in
     let mark : base_mark c (rest_of a file) (taken_by file h.calls) ≡ closed =
     ap (λ (k : ℕ). base_mark c (rest_of a file) k) h.taken
     ∙ ap (λ (s : List ℕ). mark_after c (events_in most_lines 0 (whole_lines s))) front ∙ sym now in
@@ -211,7 +129,7 @@ paced_appends c file bytes closed closed' table more notes a b d h w on =
       rest = h.rest ∙ ap (λ (s : List ℕ). bytes ++ s) (sym (rest_stays file b d w.content w.place));
       taken = taken_by-append file h.calls (first ++ second) ∙ omega (arith, took_none file (first ++ second) none, h.taken);
       wrote = wrote_by-append Rows h.calls (first ++ second)
-          ∙ omega (arith, h.wrote, wrote_by-append Rows first second, wrote_notes w.note_lengths, wrote_rows w.row_lengths, w.row_sum, length-append (base_rows_text c table) (base_rows_text c more), ap length (flat_map-append (row_line (codes "w") (pos c.size)) table more));
+          ∙ omega (arith, h.wrote, wrote_by-append Rows first second, notes_in_rows w.note_lengths, wrote_own Rows w.row_lengths, w.row_sum, length-append (base_rows_text c table) (base_rows_text c more), ap length (flat_map-append (row_line (codes "w") (pos c.size)) table more));
       each = λ before after' n e.
           let parts = split_front h.calls (first ++ second) before after' file n none e in
           saw c (base_mark c (rest_of a file) (taken_by file before)) closed closed' table more (wrote_by Rows before) (h.each before parts.0 n parts.1) on.up on.later;

@@ -6,7 +6,7 @@ use Rattle.std.proofs.lemmas.List.Elements.{All-weaker, All-append, All-nil, All
 use Rattle.jet_items.specs.Marks.{is_behind}
 use Rattle.jet_items.specs.Values.{EventValue}
 use Rattle.jet_lines.specs.Cutting.{MayCome, NextIs}
-use Rattle.jet_lines.specs.Files.{events_in, most_lines, GoOn}
+use Rattle.jet_lines.specs.Files.{are_good, events_in, most_lines, whole_lines, GoOn}
 use Rattle.jet_lines.specs.Lines.{lines_of}
 use Rattle.jet_lines.specs.LinesValue.{LinesValue}
 use Rattle.jet_lines.specs.Readings.{event_line}
@@ -18,7 +18,7 @@ use Rattle.jet_cli.specs.Counting.{Counts, late_among, mark_after}
 use Rattle.jet_worker.specs.Feeding.{PutsPiece, TakesPiece}
 use Rattle.jet_cli.specs.inner.Progress.{HasRun, Progress, TookLine, base_rows_text, base_late_text, late_of_line}
 use Rattle.jet_cli.specs.inner.Took.{Prints}
-use Rattle.jet_cli.specs.Pacing.{HasPaced}
+use Rattle.jet_cli.specs.Pacing.{HasPaced, base_late_of}
 use Rattle.jet_cli.specs.Words.{WindowCommand}
 use Rattle.jet_cli.proofs.PaceLemmas.{goes_paced_starts, goes_paced_takes, goes_paced_appends}
 use Rattle.jet_lines.specs.Feeds.{NoFeed}
@@ -74,8 +74,8 @@ progress_line c file start now next lines lines' w w' n p next_is t =
     late_text_more c events t.found n lines'.line t.read before in
     let paced : WhereTold (HasPaced c file p.bytes (mark_after c (events ++ option_to_list t.found)) (p.table ++ t.more)) start next =
     goes_paced_appends c file p.bytes (mark_after c events) (mark_after c (events ++ option_to_list t.found)) p.table t.more (late_of_line c events t.found) start now next p.paced t.told t.closes in
-    let told : WhereTold (HasRun file p.bytes lines.ended (base_rows_text c p.table ++ base_rows_text c t.more) (base_late_text (late_among c events) ++ late_of_line c events t.found)) start next =
-    goes_writes file p.bytes lines.ended (base_rows_text c p.table) (base_late_text (late_among c events)) (base_rows_text c t.more) (late_of_line c events t.found) start now next p.told t.told in
+    let told : WhereTold (HasRun c file p.bytes lines.ended (base_rows_text c p.table ++ base_rows_text c t.more) (base_late_text (late_among c events) ++ late_of_line c events t.found)) start next =
+    goes_writes c file p.bytes lines.ended (base_rows_text c p.table) (base_late_text (late_among c events)) (base_rows_text c t.more) (late_of_line c events t.found) start now next p.told t.told in
     record {
       bytes = p.bytes;
       given = given;
@@ -91,10 +91,10 @@ progress_line c file start now next lines lines' w w' n p next_is t =
       prints = t.prints;
       no_rows = t.no_rows;
       no_notes = t.no_notes;
-      told = subst (λ (b : Bool). WhereTold (HasRun file p.bytes b (base_rows_text c (p.table ++ t.more)) (base_late_text (late_among c (events_in most_lines 0 given)))) start next) (sym ended)
-          (subst (λ (es : List EventValue). WhereTold (HasRun file p.bytes lines.ended (base_rows_text c (p.table ++ t.more)) (base_late_text (late_among c es))) start next) (sym more.1)
-          (subst (λ (l : List ℕ). WhereTold (HasRun file p.bytes lines.ended (base_rows_text c (p.table ++ t.more)) l) start next) (sym notes)
-          (subst (λ (l : List ℕ). WhereTold (HasRun file p.bytes lines.ended l (base_late_text (late_among c events) ++ late_of_line c events t.found)) start next) (sym rows) told)));
+      told = subst (λ (b : Bool). WhereTold (HasRun c file p.bytes b (base_rows_text c (p.table ++ t.more)) (base_late_text (late_among c (events_in most_lines 0 given)))) start next) (sym ended)
+          (subst (λ (es : List EventValue). WhereTold (HasRun c file p.bytes lines.ended (base_rows_text c (p.table ++ t.more)) (base_late_text (late_among c es))) start next) (sym more.1)
+          (subst (λ (l : List ℕ). WhereTold (HasRun c file p.bytes lines.ended (base_rows_text c (p.table ++ t.more)) l) start next) (sym notes)
+          (subst (λ (l : List ℕ). WhereTold (HasRun c file p.bytes lines.ended l (base_late_text (late_among c events) ++ late_of_line c events t.found)) start next) (sym rows) told)));
       paced = subst (λ (es : List EventValue). WhereTold (HasPaced c file p.bytes (mark_after c es) (p.table ++ t.more)) start next) (sym more.1) paced;
     }
 
@@ -104,25 +104,28 @@ false_is b f t = absurd (cc)
 progress_put : (c : WindowCommand) (file : ℕ) (start now next : Option Told) (lines lines' : LinesValue) (w : WindowCounter) (piece : List ℕ)
     → (p : Progress c file start now lines w) → lines.ended ≡ false → NoFeed lines.rest (length lines.rest) → lines'.rest ≡ lines.rest ++ piece → lines'.most ≡ lines.most → lines'.number ≡ lines.number
     → WhereTold (TakesPiece file lines lines') now next → Progress c file start next lines' w
-progress_put c file start now next lines lines' w piece p live none rest most number told = record {
-  bytes = p.bytes ++ piece;
-  given = p.given;
-  table = p.table;
-  good = p.good;
-  most = most ∙ p.most;
-  number = number ∙ p.number;
-  cut = λ more may.
-      ap lines_of (append_assoc p.bytes piece more) ∙ p.cut (piece ++ more) (λ e. false_is lines.ended live e)
-      ∙ ap (λ (l : List ℕ). p.given ++ lines_of l) (sym (append_assoc lines.rest piece more) ∙ ap (λ (l : List ℕ). l ++ more) (sym rest));
-  before = p.before;
-  counts = p.counts;
-  prints = p.prints;
-  no_rows = p.no_rows;
-  no_notes = p.no_notes;
-  paced = goes_paced_takes c file p.bytes piece (mark_after c (events_in most_lines 0 p.given)) p.table lines lines' start now next p.paced told rest
-      (ap (λ (g : List (List ℕ)). mark_after c (events_in most_lines 0 g)) (sym (given_all p.bytes lines.rest p.given (λ more. p.cut more (λ e. false_is lines.ended live e)) none)));
-  told = goes_takes file p.bytes (base_rows_text c p.table) (base_late_text (late_among c (events_in most_lines 0 p.given))) lines lines' piece start now next rest p.told told;
-}
+progress_put c file start now next lines lines' w piece p live none rest most number told =
+    let whole : whole_lines p.bytes ≡ p.given = given_all p.bytes lines.rest p.given (λ more. p.cut more (λ e. false_is lines.ended live e)) none in
+    record {
+      bytes = p.bytes ++ piece;
+      given = p.given;
+      table = p.table;
+      good = p.good;
+      most = most ∙ p.most;
+      number = number ∙ p.number;
+      cut = λ more may.
+          ap lines_of (append_assoc p.bytes piece more) ∙ p.cut (piece ++ more) (λ e. false_is lines.ended live e)
+          ∙ ap (λ (l : List ℕ). p.given ++ lines_of l) (sym (append_assoc lines.rest piece more) ∙ ap (λ (l : List ℕ). l ++ more) (sym rest));
+      before = p.before;
+      counts = p.counts;
+      prints = p.prints;
+      no_rows = p.no_rows;
+      no_notes = p.no_notes;
+      paced = goes_paced_takes c file p.bytes piece (mark_after c (events_in most_lines 0 p.given)) p.table lines lines' start now next p.paced told rest
+          (ap (λ (g : List (List ℕ)). mark_after c (events_in most_lines 0 g)) (sym whole));
+      told = goes_takes c file p.bytes (base_rows_text c p.table) (base_late_text (late_among c (events_in most_lines 0 p.given))) lines lines' piece start now next live
+          (ap (are_good (event_line 0) most_lines) whole ∙ p.good) (ap (base_late_of c) (sym whole)) rest p.told told;
+    }
 
 -- one piece more, or the end of the file
 pub progress_more : (c : WindowCommand) (file : ℕ) (start now next : Option Told) (lines lines' : LinesValue) (w : WindowCounter)
@@ -152,5 +155,5 @@ progress_starts c file start lines w is counts prints no_rows no_notes =
       no_rows = no_rows;
       no_notes = no_notes;
       paced = goes_paced_starts c file start;
-      told = subst (λ (b : Bool). WhereTold (HasRun file [] b [] []) start start) (sym ended) (goes_starts file start);
+      told = subst (λ (b : Bool). WhereTold (HasRun c file [] b [] []) start start) (sym ended) (goes_starts c file start);
     }

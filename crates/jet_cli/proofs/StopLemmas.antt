@@ -13,7 +13,7 @@ use Rattle.jet_lines.proofs.EntryLemmas.{long_event}
 use Rattle.jet_lines.proofs.FileLemmas.{bad_next, numbered_fits, numbered_over}
 use Rattle.jet_file.specs.Outside.{Told, WhereTold, Opened, Opening, OpensFile, Tried, rest_of}
 use Rattle.jet_file.proofs.ReadLemmas.{opened_rest}
-use Rattle.jet_cli.specs.LineStops.{IsBadIn, IsBadLineAt, IsBadOf, RunStops, StepStops}
+use Rattle.jet_cli.specs.LineStops.{IsBadIn, IsBadLineAt, IsBadOf, IsWrote, RunStops, StepStops}
 use Rattle.jet_cli.specs.inner.Progress.{HasRun, Progress}
 use Rattle.jet_worker.specs.Calls.{Calling, ReadsOrWrites, OpensInOrder, part_place}
 use Rattle.jet_worker.specs.Feeding.{FailsAt}
@@ -25,7 +25,8 @@ use Rattle.jet_worker.proofs.CallLemmas.{none_last}
 use Rattle.jet_worker.proofs.OrderLemmas.{none_in}
 use Rattle.jet_file.proofs.GoesLemmas.{goes_same, goes_weaker}
 use Rattle.jet_cli.proofs.OrderLemmas.{named_after, opening_named}
-use Rattle.std.proofs.lemmas.List.Elements.{All-append}
+use Rattle.jet_cli.proofs.ReadPlaces.{last_none, ready_more, ready_opened, ready_unopened, wrote_none, wrote_quiet}
+use Rattle.std.proofs.lemmas.List.Elements.{All-append, All-weaker}
 use Rattle.jet_cli.specs.Words.{WindowCommand}
 use Rattle.jet_cli.specs.declared.counter.WindowCounter.{WindowCounter}
 use Rattle.jet_worker.specs.declared.stop.Spot.{Spot}
@@ -42,7 +43,7 @@ bad_of c content told NoMemory is h = tt
 
 run_stops : (c : WindowCommand) (file : ℕ) (bytes : List ℕ) (ended : Bool) (rows notes : List ℕ) (stop : Stop) (old start now next : Told)
     → ((content more : List ℕ) → content ≡ bytes ++ more → MayCome ended more → IsBadIn content stop)
-    → OpensFile c.file file old start → HasRun file bytes ended rows notes start now → StepStops (IsCallIn (Part 0) file) stop now next → Calling (RunStops c stop) old next
+    → OpensFile c.file file old start → HasRun c file bytes ended rows notes start now → StepStops (IsCallIn (Part 0) file) stop now next → Calling (RunStops c stop) old next
 run_stops c file bytes ended rows notes stop old start now next bad opens run stops =
     let such : Call → Spot → Tried → Type 0 = IsCallIn (Part 0) file in
     let calls : List CallMade = run.calls ++ stops.calls in
@@ -53,7 +54,9 @@ run_stops c file bytes ended rows notes stop old start now next bad opens run st
           ∙ ap (λ (l : List CallMade). l ++ stops.last) (append_assoc (old.trace ++ Opened c.file file ∷ []) run.calls stops.calls)
           ∙ append_assoc (old.trace ++ Opened c.file file ∷ []) calls stops.last ∙ append_assoc old.trace (Opened c.file file ∷ []) (calls ++ stops.last);
       did = record {
-        opens = (refl, All-append ReadsOrWrites calls stops.last (All-append ReadsOrWrites run.calls stops.calls run.quiet stops.quiet) (none_last such stop stops.last (none_in (Part 0) file) stops.fails));
+        opens = (refl, All-append ReadsOrWrites calls stops.last (All-append ReadsOrWrites run.calls stops.calls run.quiet (All-weaker IsWrote ReadsOrWrites wrote_quiet stops.calls stops.wrote)) (none_last such stop stops.last (none_in (Part 0) file) stops.fails));
+        ready = ready_opened c file old start (calls ++ stops.last) opens
+            (ready_more c (rest_of start file) file calls stops.last (ready_more c (rest_of start file) file run.calls stops.calls run.ready (wrote_none stops.calls stops.wrote)) (last_none such stop stops.last stops.fails));
         fails = named_after part_place (Part 0) c.file file calls stop stops.last refl stops.fails;
         bad = bad_of c found.0 old stop found.1 (bad found.0 (rest_of now file) (sym (opened_rest c.file found.0 file old start found.1 opens) ∙ run.rest) run.end);
       };
@@ -61,14 +64,14 @@ run_stops c file bytes ended rows notes stop old start now next bad opens run st
 
 -- no call was made
 pub goes_nowhere : (c : WindowCommand) (old : Option Told) → WhereTold (Calling (RunStops c NoMemory)) old old
-goes_nowhere c old = goes_same (Calling (RunStops c NoMemory)) (λ a. record { calls = []; trace = sym (append-nil a.trace); did = record { opens = tt; fails = tt; bad = tt } }) old
+goes_nowhere c old = goes_same (Calling (RunStops c NoMemory)) (λ a. record { calls = []; trace = sym (append-nil a.trace); did = record { opens = tt; ready = ready_unopened c a (Part 0) (Opening c.file) NoMemory [] refl; fails = tt; bad = tt } }) old
 
 -- the file could not be opened
 pub goes_unopened : (c : WindowCommand) (stop : Stop) (old now : Option Told) → IsNoBadLine stop → WhereTold (FailsAt Open (Part 0) (Opening c.file) stop) old now → WhereTold (Calling (RunStops c stop)) old now
 goes_unopened c stop old now never = goes_weaker (FailsAt Open (Part 0) (Opening c.file) stop) (Calling (RunStops c stop)) (λ a b s. record {
   calls = s.last;
   trace = ap (λ (t : Told). t.trace) s.same;
-  did = record { opens = opens stop s.last s.is; fails = opening_named part_place (Part 0) c.file stop s.last refl s.is; bad = none_bad a stop never };
+  did = record { opens = opens stop s.last s.is; ready = ready_unopened c a (Part 0) (Opening c.file) stop s.last s.is; fails = opening_named part_place (Part 0) c.file stop s.last refl s.is; bad = none_bad a stop never };
 }) old now
   where
     opens : (stop : Stop) (last : List CallMade) → LastOf Open (Part 0) (Opening c.file) stop last → OpensInOrder (c.file ∷ []) last
@@ -83,7 +86,7 @@ goes_unopened c stop old now never = goes_weaker (FailsAt Open (Part 0) (Opening
 
 pub goes_run_stops : (c : WindowCommand) (file : ℕ) (bytes : List ℕ) (ended : Bool) (rows notes : List ℕ) (stop : Stop) (old start now next : Option Told)
     → ((content more : List ℕ) → content ≡ bytes ++ more → MayCome ended more → IsBadIn content stop)
-    → WhereTold (OpensFile c.file file) old start → WhereTold (HasRun file bytes ended rows notes) start now → WhereTold (StepStops (IsCallIn (Part 0) file) stop) now next → WhereTold (Calling (RunStops c stop)) old next
+    → WhereTold (OpensFile c.file file) old start → WhereTold (HasRun c file bytes ended rows notes) start now → WhereTold (StepStops (IsCallIn (Part 0) file) stop) now next → WhereTold (Calling (RunStops c stop)) old next
 goes_run_stops c file bytes ended rows notes stop None start now next bad o r s = tt
 goes_run_stops c file bytes ended rows notes stop (Some old) None now next bad o r s = absurd o
 goes_run_stops c file bytes ended rows notes stop (Some old) (Some start) None next bad o r s = absurd r

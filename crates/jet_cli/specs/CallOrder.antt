@@ -11,6 +11,7 @@ use Rattle.jet_worker.specs.declared.stop.Stop.TheVariants.{BadLine, Outside, No
 use Rattle.jet_cli.specs.JobWords.{JobCommand}
 use Rattle.jet_cli.specs.JobChecks.{HasChecks}
 use Rattle.jet_cli.specs.JobData.{files_of}
+use Rattle.jet_cli.specs.Pacing.{ReadsOn}
 use Rattle.jet_cli.specs.Words.{JetCommand, WindowOf, PlanOf, CheckOf}
 
 -- one byte more than a job file may have
@@ -49,9 +50,9 @@ pub record ChecksJob (c : JobCommand) (told : Told) (calls : List CallMade) : Ty
   pub files : ReadsInOrder (map file_name (files_of (told.content c.job))) later
   pub turns : (files.turns ≡ []) ⊎ ((job : HasChecks c told) × HaveTurns job.checks told (numbered job.checks) files.turns)
 
--- the calls of a command come in its order, and no other file is opened
+-- the calls of a command come in its order, and no other file is opened; `window` reads on only when all is ready for it
 abbrev pub IsInOrder : JetCommand → List CallMade → Told → Told → Type 0
-IsInOrder (WindowOf c) calls old new = OpensInOrder (c.file ∷ []) calls
+IsInOrder (WindowOf c) calls old new = OpensInOrder (c.file ∷ []) calls × ReadsOn c old calls
 IsInOrder (PlanOf c) calls old new = ReadsJob c.job calls
 IsInOrder (CheckOf c) calls old new = ChecksJob c old calls
 

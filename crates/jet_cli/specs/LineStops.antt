@@ -3,17 +3,18 @@ use Rattle.std.specs.Prelude.{◌≡◌, ℕ, ⊤, List, [], ◌∷◌, ◌++◌
 use Rattle.jet_lines.specs.Readings.{event_line}
 use Rattle.jet_lines.specs.Files.{first_bad_line, most_lines}
 use Rattle.jet_lines.specs.declared.fault.LineFault.{LineFault}
-use Rattle.jet_file.specs.Outside.{CallMade, Told, WhereTold, Tried}
+use Rattle.jet_file.specs.Outside.{CallMade, Opened, Read, Wrote, Missed, Told, WhereTold, Tried}
 use Rattle.jet_cli.specs.BaseJob.{base_fault}
 use Rattle.jet_cli.specs.Refusals.{base_refusal}
 use Rattle.jet_cli.specs.Words.{WindowCommand}
 use Rattle.jet_cli.specs.declared.halt.Halt.{Halt}
 use Rattle.jet_cli.specs.declared.halt.Halt.TheVariants.{Refused, Stopped}
-use Rattle.jet_worker.specs.Calls.{Calling, ReadsOrWrites, OpensInOrder, part_place}
+use Rattle.jet_worker.specs.Calls.{Calling, OpensInOrder, part_place}
 use Rattle.jet_worker.specs.Stopping.{IsWriting, LastIs}
 use Rattle.jet_worker.specs.declared.stop.Call.{Call}
 use Rattle.jet_worker.specs.declared.stop.Spot.{Spot}
 use Rattle.jet_cli.specs.CallOrder.{StopNamed}
+use Rattle.jet_cli.specs.Pacing.{ReadsOn}
 use Rattle.jet_worker.specs.declared.stop.Stop.{Stop}
 use Rattle.jet_worker.specs.declared.stop.Stop.TheVariants.{BadLine, Outside, NoMemory}
 
@@ -23,10 +24,17 @@ IsBadLineAt number line (BadLine part n why) = (part ≡ 0) × (n ≡ number) ×
 IsBadLineAt number line (Outside call spot) = ⊤
 IsBadLineAt number line NoMemory = ⊤
 
--- a step that opens no file stopped, at such a call where one failed
+-- the call wrote
+abbrev pub IsWrote : CallMade → Type 0
+IsWrote (Opened name file) = ⊥
+IsWrote (Read file n) = ⊥
+IsWrote (Wrote to n) = ⊤
+IsWrote (Missed tried) = ⊥
+
+-- a step that opened and read nothing stopped, at such a call where one failed
 pub record StepStops (such : Call → Spot → Tried → Type 0) (stop : Stop) (old new : Told) : Type 0 where
   pub calls : List CallMade
-  pub quiet : All ReadsOrWrites calls
+  pub wrote : All IsWrote calls
   pub last : List CallMade
   pub fails : LastIs such stop last
   pub trace : new.trace ≡ old.trace ++ calls ++ last
@@ -54,6 +62,7 @@ IsBadOf c told NoMemory = ⊤
 -- why the run over the file of a command stops; its calls were in order
 pub record RunStops (c : WindowCommand) (stop : Stop) (calls : List CallMade) (old new : Told) : Type 0 where
   pub opens : OpensInOrder (c.file ∷ []) calls
+  pub ready : ReadsOn c old calls
   pub fails : StopNamed part_place stop calls
   pub bad : IsBadOf c old stop
 

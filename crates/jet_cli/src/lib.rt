@@ -13,7 +13,6 @@ mod base_job;
 mod commands;
 mod counter;
 mod digits;
-mod gate;
 mod halt;
 mod job_file;
 mod job_words;
@@ -29,7 +28,7 @@ mod steps;
 mod word_laws;
 mod words;
 
-pub use gate::{FreeGate, Gate};
+pub use jet_crew::{FreeGate, Gate};
 pub use jet_worker::{Call, Spot, Stop};
 pub use job_words::{JobWords, Options};
 pub use laws::{output_is_one, window_faults_are_of_sizes};

@@ -21,8 +21,8 @@ use std::alloc::Global;
 use std::sync::ledger::Ledger;
 use std::thread::Threads;
 
-/// Does all that the program does. `words` are those after the program's name. The gate is not entered and no step
-/// is counted yet: one loop on the caller's thread does the work.
+/// Does all that the program does. `words` are those after the program's name. One loop on the caller's thread does the
+/// work, and no step is counted yet.
 pub fn run_jet<R: Threads + Sync, O: Outside, G: Gate + Sync, L: Ledger>(
     _rt: &R,
     alloc: Global,
@@ -43,7 +43,8 @@ pub fn run_jet<R: Threads + Sync, O: Outside, G: Gate + Sync, L: Ledger>(
     // However it ends, its calls come in this order: the job file of `plan` and `check` is opened and read, and no more
     // bytes are taken of it than one too many; then the data files are opened in the order of their numbers, and no
     // other; then each has its turn in `check`: reads of it to its end, and then writes of its line, before the next file
-    // is read. A read takes at most 4096 bytes.
+    // is read. A read takes at most 4096 bytes. Of a data file no read is made behind its end, nor once a whole line that
+    // was taken of it is bad; and before each read of `window` the late lines of the lines taken had been written.
     ensures calls { IfSome (command_of (map string_bytes words.now))
         (λ c. WhereTold (Calling (IsInOrder c)) (O.told out.old) (O.told out.new)) }
 

@@ -1,6 +1,6 @@
 -- Openings and turns among the calls of a run.
 use Rattle.std.proofs.Common.{◌≡◌, ◌≤◌, ℕ, List, [], ◌∷◌, ◌++◌, map, All, refl, sym, ap, ◌∙◌, subst, inl, inr, append-nil}
-use Rattle.std.specs.Prelude.{flat_map}
+use Rattle.std.specs.Prelude.{◌⊎◌, flat_map}
 use Rattle.std.proofs.lemmas.Grind.{flat_map-append}
 use Rattle.std.proofs.lemmas.List.Elements.{All-append, All-cons, All-head, All-map, All-nil, All-tail}
 use Rattle.jet_file.specs.Outside.{CallMade, Opened, Read, Wrote, Missed, Tried}
@@ -13,6 +13,31 @@ use Rattle.jet_worker.specs.declared.stop.Call.TheVariants as call
 use Rattle.jet_worker.specs.declared.stop.Spot.{Spot}
 use Rattle.jet_worker.specs.declared.stop.Stop.{Stop}
 use Rattle.jet_worker.specs.declared.stop.Stop.TheVariants.{BadLine, Outside, NoMemory}
+
+-- ---- places in a list
+
+pub same_head : {X : Type 0} (x y : X) (xs ys : List X) → x ∷ xs ≡ y ∷ ys → x ≡ y
+same_head x y xs ys h = cc h
+
+pub same_tail : {X : Type 0} (x y : X) (xs ys : List X) → x ∷ xs ≡ y ∷ ys → xs ≡ ys
+same_tail x y xs ys h = cc h
+
+pub cancel : {X : Type 0} (xs ys zs : List X) → xs ++ ys ≡ xs ++ zs → ys ≡ zs
+cancel [] ys zs h = h
+cancel (x ∷ xs) ys zs h = cancel xs ys zs (same_tail x x (xs ++ ys) (xs ++ zs) h)
+
+-- the last of a list, or one in front of it
+pub split_last : {X : Type 0} (xs before after : List X) (x y : X) → xs ++ x ∷ [] ≡ before ++ y ∷ after → (before ≡ xs) ⊎ ((later : List X) × (xs ≡ before ++ y ∷ later))
+split_last [] [] after x y e = inl refl
+split_last [] (b ∷ []) after x y e = absurd (cc (same_tail x b [] (y ∷ after) e))
+split_last [] (b ∷ d ∷ before) after x y e = absurd (cc (same_tail x b [] (d ∷ (before ++ y ∷ after)) e))
+split_last (z ∷ xs) [] after x y e = inr (xs, ap (λ w. w ∷ xs) (same_head z y (xs ++ x ∷ []) after e))
+split_last {X} (z ∷ xs) (b ∷ before) after x y e =
+    step (split_last xs before after x y (same_tail z b (xs ++ x ∷ []) (before ++ y ∷ after) e)) (same_head z b (xs ++ x ∷ []) (before ++ y ∷ after) e)
+  where
+    step : (before ≡ xs) ⊎ ((later : List X) × (xs ≡ before ++ y ∷ later)) → z ≡ b → (b ∷ before ≡ z ∷ xs) ⊎ ((later : List X) × (z ∷ xs ≡ b ∷ before ++ y ∷ later))
+    step (inl same) first = inl (ap (λ w. w ∷ before) (sym first) ∙ ap (λ (l : List X). z ∷ l) same)
+    step (inr (later, is)) first = inr (later, ap (λ w. w ∷ xs) first ∙ ap (λ (l : List X). b ∷ l) is)
 
 -- ---- the numbers of the openings
 

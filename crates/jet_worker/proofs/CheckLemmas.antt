@@ -7,6 +7,7 @@ use Rattle.jet_file.specs.Writing.{HasWritten}
 use Rattle.jet_file.specs.declared.outside.Out.TheVariants as out
 use Rattle.jet_flow.specs.DataFiles.{DataFile}
 use Rattle.jet_worker.specs.CheckText.{Checks, check_line, first_bad}
+use Rattle.jet_worker.specs.Checked.{AreWanted}
 use Rattle.jet_worker.specs.Feeding.{StopsWriting, WritesText}
 use Rattle.jet_worker.specs.inner.FileChecks.{ChecksFile, HasChecked, HasTallied, IsBadIn, StopsChecking, StopsReading}
 use Rattle.jet_worker.specs.Stopping.{IsCallIn, IsNoBadLine, LastIs, LastOf}
@@ -33,6 +34,7 @@ goes_unread c p at stop start now = goes_weaker (StopsReading c p at stop) (Stop
   notes = ap (λ w. w out.Notes) h.reads.written;
   counts = h.reads.counts;
   pieces = h.reads.pieces;
+  wanted = h.wanted;
   lengths = [];
   order = inl refl;
   last = h.reads.last;
@@ -51,6 +53,7 @@ goes_untold c p at count tally start now = goes_weaker (HasTallied c p at count 
   notes = ap (λ w. w out.Notes) h.run.written;
   counts = h.run.counts;
   pieces = h.run.pieces;
+  wanted = h.run.wanted;
   lengths = [];
   order = inl refl;
   last = [];
@@ -81,6 +84,7 @@ checked laws c p at count tally text a b d is h w = record {
   notes = w.others out.Notes notes_not_rows ∙ ap (λ f. f out.Notes) h.run.written;
   counts = h.run.counts;
   pieces = h.run.pieces;
+  wanted = subst (λ (l : List ℕ). AreWanted c p l h.run.counts) h.left h.run.wanted;
   reads = h.run.sum;
   lengths = w.lengths;
   writes = w.sum ∙ ap length (is h.bytes h.tallied h.count_is);
@@ -114,6 +118,7 @@ unwritten laws c p at count tally text stop a b d is never h w = record {
   notes = w.others out.Notes notes_not_rows ∙ ap (λ f. f out.Notes) h.run.written;
   counts = h.run.counts;
   pieces = h.run.pieces;
+  wanted = h.run.wanted;
   lengths = w.lengths;
   order = inr (h.run.sum ∙ ap length (sym h.left));
   last = w.last;

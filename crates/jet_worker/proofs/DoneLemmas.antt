@@ -11,7 +11,7 @@ use Rattle.jet_file.specs.declared.outside.Out.TheVariants as out
 use Rattle.jet_flow.specs.DataFiles.{DataFile, file_name}
 use Rattle.jet_worker.specs.Calls.{Calling, ReadsOrWrites, Turn, opened_by, opening_call, turn_calls}
 use Rattle.jet_worker.specs.CheckText.{Checks, check_line, first_bad}
-use Rattle.jet_worker.specs.Checked.{AreThere, IsChecked, IsGood, IsRead, IsTurnOf, check_lines, content_of, numbered}
+use Rattle.jet_worker.specs.Checked.{AreThere, AreWanted, IsChecked, IsGood, IsRead, IsTurnOf, check_lines, content_of, numbered}
 use Rattle.jet_worker.specs.inner.FileChecks.{HasChecked}
 use Rattle.jet_worker.specs.inner.Opening.{AreApart, AreNew, HasOpened, IsUnread, Opened, opening_of, pair_of}
 use Rattle.jet_worker.proofs.CallLemmas.{HasPieces, opened_by_both, turns_more}
@@ -161,7 +161,7 @@ one_done c done later o a b d apart h k =
       turns = h.turns ++ turn ∷ [];
       files = files_more done o h.turns turn h.files refl;
       each = turns_push c a done o h.turns turn h.each
-          (record { reads = k.reads ∙ ap length bytes; writes = k.writes ∙ ap (λ (l : List ℕ). length (check_line c (pair_of o) l)) bytes });
+          (record { wanted = subst (λ (l : List ℕ). AreWanted c (pair_of o) l k.counts) bytes k.wanted; reads = k.reads ∙ ap length bytes; writes = k.writes ∙ ap (λ (l : List ℕ). length (check_line c (pair_of o) l)) bytes });
       pieces = All-append HasPieces h.turns (turn ∷ []) h.pieces (All-cons HasPieces turn [] k.pieces (All-nil HasPieces));
       trace = trace_more a.trace b.trace d.trace done later o h.turns turn h.trace k.trace;
     }

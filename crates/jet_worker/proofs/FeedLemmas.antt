@@ -1,7 +1,5 @@
 -- What the steps of a run do to the outside.
-use Rattle.std.proofs.Common.{◌≡◌, ℕ, ◌+◌, ◌≤◌, List, [], ◌∷◌, ◌++◌, length, take, drop, true, false, Option, arith, ap, sym, ◌∙◌, subst, length-take-le, Err, append-nil, map, refl, take-append-drop, inl, inr, Result, Ok, OnOk}
-use Rattle.std.specs.Prelude.{IfErr}
-use Rattle.std.proofs.lemmas.List.Elements.{All-nil}
+use Rattle.std.proofs.Common.{◌≡◌, ℕ, ◌+◌, ◌<◌, ◌≤◌, List, [], ◌∷◌, ◌++◌, length, take, drop, true, false, Option, arith, ap, sym, ◌∙◌, subst, length-take-le, Err, append-nil, map, refl, take-append-drop, inl, inr}
 use Rattle.jet_file.specs.Outside.{Told, CallMade, Place, Missed, Tried, Reading, Writing, Read, Wrote, WhereTold, ReadsFile, Stays, rest_of}
 use Rattle.jet_file.specs.declared.outside.Out.{Out}
 use Rattle.jet_file.specs.declared.outside.Out.TheVariants as out
@@ -9,7 +7,7 @@ use Rattle.jet_file.specs.declared.outside.OutFault.{OutFault}
 use Rattle.jet_file.specs.declared.outside.OutFault.TheVariants as fault
 use Rattle.jet_file.specs.Writing.{HasWritten, WritesFront, missed}
 use Rattle.jet_lines.specs.LinesValue.{LinesValue}
-use Rattle.jet_worker.specs.Feeding.{Appends, FailsAt, FailsPiece, Flushes, ReadsPiece, StopsReads, TakesPiece, WritesText}
+use Rattle.jet_worker.specs.Feeding.{Appends, FailsAt, Flushes, PutsPiece, TakesPiece, WritesText}
 use Rattle.jet_worker.specs.Calls.{most_piece}
 use Rattle.jet_worker.specs.Stopping.{IsCallIn, IsWriting, LastIs, LastOf}
 use Rattle.jet_worker.specs.inner.Stopped.{stop_of, spot_of}
@@ -18,9 +16,8 @@ use Rattle.jet_worker.specs.declared.stop.Call.TheVariants as call
 use Rattle.jet_worker.specs.declared.stop.Spot.{Spot}
 use Rattle.jet_worker.specs.declared.stop.Stop.{Stop}
 use Rattle.jet_worker.specs.declared.stop.Stop.TheVariants.{BadLine, Outside, NoMemory}
-use Rattle.jet_file.proofs.GoesLemmas.{goes_then, goes_weaker}
+use Rattle.jet_file.proofs.GoesLemmas.{goes_same, goes_then, goes_weaker}
 use Rattle.jet_file.proofs.ReadLemmas.{rest_next}
-use Rattle.jet_worker.proofs.CallLemmas.{one_piece}
 
 -- ---- openings and reads
 
@@ -37,25 +34,20 @@ pub goes_call_fails : (call : Call) (spot : Spot) (tried : Tried) (f : OutFault)
 goes_call_fails call spot tried f stop old now is =
     goes_weaker (Stays tried f) (FailsAt call spot tried stop) (λ a b h. subst (λ (s : Stop). FailsAt call spot tried s a b) (sym is) (call_fails call spot tried f a b h)) old now
 
-pub goes_piece_fails : (spot : Spot) (file : ℕ) (stop : Stop) (old now : Option Told) → WhereTold (FailsAt call.Read spot (Reading file) stop) old now → WhereTold (FailsPiece spot file stop) old now
-goes_piece_fails spot file stop = goes_weaker (FailsAt call.Read spot (Reading file) stop) (FailsPiece spot file stop) (λ a b h. inl h)
+-- no memory was found before the call
+pub goes_uncalled : (call : Call) (spot : Spot) (tried : Tried) (old : Option Told) → WhereTold (FailsAt call spot tried NoMemory) old old
+goes_uncalled call spot tried = goes_same (FailsAt call spot tried NoMemory) (λ a. call_fails call spot tried fault.NoMemory a a refl)
 
--- a piece was read, and where no memory was found to keep it that is said
-pub goes_unkept_piece : (spot : Spot) (file : ℕ) (buffer : List ℕ) (n : ℕ) (r : Result (Unit {0}) Stop) (old now : Option Told) → n ≤ length buffer → length buffer ≤ most_piece → IfErr r (λ stop. stop ≡ NoMemory)
-    → WhereTold (ReadsFile file buffer n) old now → IfErr r (λ stop. WhereTold (FailsPiece spot file stop) old now)
-goes_unkept_piece spot file buffer n (Ok done) old now fits most none h = tt
-goes_unkept_piece spot file buffer n (Err stop) old now fits most none h =
-    goes_weaker (ReadsFile file buffer n) (FailsPiece spot file stop) (λ a b s. inr (none, buffer, n, omega (arith, fits, most), s)) old now h
-
-takes_piece : (file : ℕ) (buffer : List ℕ) (n : ℕ) (before after : LinesValue) (a b : Told) → n ≤ length buffer → length buffer ≤ most_piece → before.ended ≡ false
+takes_piece : (file : ℕ) (buffer : List ℕ) (n : ℕ) (before after : LinesValue) (a b : Told) → 0 < n → n ≤ length buffer → length buffer ≤ most_piece → before.ended ≡ false
     → after ≡ record before { rest = before.rest ++ take n buffer; held = after.held } → ReadsFile file buffer n a b → TakesPiece file before after a b
-takes_piece file buffer n before after a b fits most live is r =
+takes_piece file buffer n before after a b more fits most live is r =
     let len : length (take n buffer) ≡ n = length-take-le n buffer fits in
     let live_still : after.ended ≡ false = ap (λ (v : LinesValue). v.ended) is ∙ live in
     record {
       piece = take n buffer;
       small = omega (arith, len, fits, most);
       lines = ap (λ (v : LinesValue). v.rest) is;
+      some = λ h. omega (arith, len, more);
       end = λ h. absurd (true_not_false (sym h ∙ live_still));
       rest = sym (take-append-drop n (rest_of a file)) ∙ ap (λ (s : List ℕ). s ++ drop n (rest_of a file)) (sym r.bytes)
           ∙ ap (λ (s : List ℕ). take n buffer ++ s) (sym (rest_next file buffer n a b r));
@@ -70,52 +62,35 @@ takes_piece file buffer n before after a b fits most live is r =
     true_not_false : true ≡ false → ⊥
     true_not_false h = cc
 
-goes_piece : (file : ℕ) (buffer : List ℕ) (n : ℕ) (before after : LinesValue) (old now : Option Told) → n ≤ length buffer → length buffer ≤ most_piece → before.ended ≡ false
+-- room was made, and a piece put in it
+pub appended : (before mid after : LinesValue) (piece : List ℕ) → mid ≡ record before { held = mid.held } → after ≡ record mid { rest = mid.rest ++ piece }
+    → after ≡ record before { rest = before.rest ++ piece; held = after.held }
+appended before mid after piece made put =
+    put ∙ ap (λ (v : LinesValue). let w : LinesValue = record v { rest = v.rest ++ piece } in w) made
+    ∙ ap (λ (n : ℕ). let w : LinesValue = record before { rest = before.rest ++ piece; held = n } in w) (sym (ap (λ (v : LinesValue). v.held) put))
+
+pub puts_piece : (buffer : List ℕ) (n : ℕ) (before mid after : LinesValue) → 0 < n → n ≤ length buffer → length buffer ≤ most_piece → mid ≡ record before { held = mid.held }
+    → after ≡ record mid { rest = mid.rest ++ take n buffer } → PutsPiece before after
+puts_piece buffer n before mid after more fits most made put =
+    let len : length (take n buffer) ≡ n = length-take-le n buffer fits in
+    inl (take n buffer, omega (arith, len, more), omega (arith, len, fits, most), appended before mid after (take n buffer) made put)
+
+-- room was made, and the file has ended
+pub puts_end : (before mid after : LinesValue) → mid ≡ record before { held = mid.held } → after ≡ record mid { ended = true } → PutsPiece before after
+puts_end before mid after made ends =
+    inr (ends ∙ ap (λ (v : LinesValue). let w : LinesValue = record v { ended = true } in w) made
+    ∙ ap (λ (n : ℕ). let w : LinesValue = record before { ended = true; held = n } in w) (sym (ap (λ (v : LinesValue). v.held) ends)))
+
+pub goes_piece : (file : ℕ) (buffer : List ℕ) (n : ℕ) (before after : LinesValue) (old now : Option Told) → 0 < n → n ≤ length buffer → length buffer ≤ most_piece → before.ended ≡ false
     → after ≡ record before { rest = before.rest ++ take n buffer; held = after.held } → WhereTold (ReadsFile file buffer n) old now → WhereTold (TakesPiece file before after) old now
-goes_piece file buffer n before after old now fits most live is =
-    goes_weaker (ReadsFile file buffer n) (TakesPiece file before after) (λ a b r. takes_piece file buffer n before after a b fits most live is r) old now
+goes_piece file buffer n before after old now more fits most live is =
+    goes_weaker (ReadsFile file buffer n) (TakesPiece file before after) (λ a b r. takes_piece file buffer n before after a b more fits most live is r) old now
 
 -- the call that failed is a read of the file
 pub read_last : (spot : Spot) (file : ℕ) (stop : Stop) (last : List CallMade) → LastOf call.Read spot (Reading file) stop last → LastIs (IsCallIn spot file) stop last
 read_last spot file (BadLine part line why) last h = absurd h
 read_last spot file (Outside failed at) last h = (Reading file, h.2, subst (λ (k : Call). IsCallIn spot file k at (Reading file)) (sym h.0) (h.1, refl))
 read_last spot file NoMemory last h = h
-
--- one read stopped
-read_stops : (spot : Spot) (file : ℕ) (stop : Stop) (a b : Told) → FailsAt call.Read spot (Reading file) stop a b → StopsReads spot file stop a b
-read_stops spot file stop a b h = record {
-  content = ap (λ (t : Told). t.content) h.same;
-  written = ap (λ (t : Told). t.written) h.same;
-  counts = [];
-  pieces = All-nil (λ (n : ℕ). n ≤ most_piece);
-  last = h.last;
-  fails = read_last spot file stop h.last h.is;
-  trace = ap (λ (t : Told). t.trace) h.same ∙ ap (λ (l : List CallMade). l ++ h.last) (sym (append-nil a.trace));
-}
-
-pub goes_read_stops : (spot : Spot) (file : ℕ) (stop : Stop) (old now : Option Told) → WhereTold (FailsAt call.Read spot (Reading file) stop) old now → WhereTold (StopsReads spot file stop) old now
-goes_read_stops spot file stop = goes_weaker (FailsAt call.Read spot (Reading file) stop) (StopsReads spot file stop) (read_stops spot file stop)
-
--- the bytes were read, and no memory was found to keep them
-goes_unkept : (spot : Spot) (file : ℕ) (buffer : List ℕ) (n : ℕ) (before after : LinesValue) (stop : Stop) (old now : Option Told) → n ≤ length buffer → length buffer ≤ most_piece → stop ≡ NoMemory → WhereTold (ReadsFile file buffer n) old now
-    → WhereTold (ReadsPiece {T = Unit {0}} spot file before after (Err stop)) old now
-goes_unkept spot file buffer n before after stop old now fits most is =
-    goes_weaker (ReadsFile file buffer n) (ReadsPiece {T = Unit {0}} spot file before after (Err stop)) (λ a b r. record {
-      content = r.content;
-      written = r.written;
-      counts = n ∷ [];
-      pieces = one_piece n (omega (arith, fits, most));
-      last = [];
-      fails = subst (λ (s : Stop). LastIs (IsCallIn spot file) s []) (sym is) refl;
-      trace = r.trace ∙ sym (append-nil (a.trace ++ Read file n ∷ []));
-    }) old now
-
--- the bytes were read, and put to the lines where memory was found
-pub goes_kept : (spot : Spot) (file : ℕ) (buffer : List ℕ) (n : ℕ) (before after : LinesValue) (r : Result (Unit {0}) Stop) (old now : Option Told) → n ≤ length buffer → length buffer ≤ most_piece → before.ended ≡ false
-    → OnOk r (after ≡ record before { rest = before.rest ++ take n buffer; held = after.held }) → IfErr r (λ stop. stop ≡ NoMemory) → WhereTold (ReadsFile file buffer n) old now
-    → WhereTold (ReadsPiece spot file before after r) old now
-goes_kept spot file buffer n before after (Ok done) old now fits most live is none h = goes_piece file buffer n before after old now fits most live is h
-goes_kept spot file buffer n before after (Err stop) old now fits most live is none h = goes_unkept spot file buffer n before after stop old now fits most none h
 
 -- ---- writes
 

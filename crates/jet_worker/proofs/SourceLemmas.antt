@@ -34,7 +34,7 @@ entry_refuses n line t (refused.Fault why) h = ap (λ (r : Result Entry LineFaul
 -- ---- events that are behind
 
 -- the events stand on lines before this one
-abbrev AreBefore : ℕ → List EventValue → Type 0
+abbrev pub AreBefore : ℕ → List EventValue → Type 0
 AreBefore line events = All (λ e. e.line < line) events
 
 -- a filter that keeps all
@@ -72,17 +72,17 @@ times_before_more line events e h =
     ∙ ap (λ (b : Bool). filter (λ (x : EventValue). nat_lt x.line line) events ++ cond b (e ∷ []) []) (lt_false e.line line h)
     ∙ append-nil (filter (λ (x : EventValue). nat_lt x.line line) events))
 
-behind_more : (lag grain : ℤ) (events : List EventValue) (e x : EventValue) → x.line ≤ e.line → is_behind lag grain (events ++ e ∷ []) x ≡ is_behind lag grain events x
+pub behind_more : (lag grain : ℤ) (events : List EventValue) (e x : EventValue) → x.line ≤ e.line → is_behind lag grain (events ++ e ∷ []) x ≡ is_behind lag grain events x
 behind_more lag grain events e x h =
     ap (λ (times : List ℤ). option_map_or (λ (mark : ℤ). int_lt x.ts mark) (mark_of lag grain times) false) (times_before_more x.line events e h)
 
 -- an event after all of these is behind where its time is below their watermark
-behind_at : (lag grain : ℤ) (events : List EventValue) (e : EventValue) → AreBefore e.line events
+pub behind_at : (lag grain : ℤ) (events : List EventValue) (e : EventValue) → AreBefore e.line events
     → is_behind lag grain events e ≡ is_below (mark_of lag grain (map (λ x. x.ts) events)) e.ts
 behind_at lag grain events e h =
     ap (λ (times : List ℤ). option_map_or (λ (mark : ℤ). int_lt e.ts mark) (mark_of lag grain times) false) (times_before_all e.line events h)
 
-le : (a b : ℕ) → a < b → a ≤ b
+pub le : (a b : ℕ) → a < b → a ≤ b
 le a b h = omega arith
 
 -- how many are behind with one event more

@@ -12,7 +12,7 @@ use Rattle.jet_file.specs.declared.outside.Out.TheVariants as out
 use Rattle.jet_flow.specs.DataFiles.{DataFile, file_name}
 use Rattle.jet_worker.specs.Calls.{Calling, EndsFailed, ReadsInOrder, Turn, opened_by, opening_call, part_place, turn_calls}
 use Rattle.jet_worker.specs.CheckText.{Checks, check_line, first_bad}
-use Rattle.jet_worker.specs.Checked.{BeginsTurn, CheckStops, HaveTurns, IsBadLine, IsBegun, IsGood, WhyStopped, check_lines, content_of, names_of, numbered}
+use Rattle.jet_worker.specs.Checked.{AreWanted, BeginsTurn, CheckStops, HaveTurns, IsBadLine, IsBegun, IsGood, WhyStopped, check_lines, content_of, names_of, numbered}
 use Rattle.jet_worker.specs.inner.FileChecks.{IsFrontOf, StopsChecking}
 use Rattle.jet_worker.specs.inner.Opening.{IsUnread, Opened, StopsOpening, opening_of, pair_of}
 use Rattle.jet_worker.specs.Stopping.{IsCallIn, IsNoBadLine, LastIs}
@@ -90,7 +90,7 @@ opening_stops c stop a b never h = record {
 -- ---- in a file
 
 -- whole turns, and then one that was begun
-turns_then : (c : Checks) (told : Told) (files : List (ℕ × DataFile)) (p : ℕ × DataFile) (later : List (ℕ × DataFile)) (turns : List Turn) (t : Turn) → AllZip (TakesTurn c told) files turns → BeginsTurn (content_of told p.1) t
+turns_then : (c : Checks) (told : Told) (files : List (ℕ × DataFile)) (p : ℕ × DataFile) (later : List (ℕ × DataFile)) (turns : List Turn) (t : Turn) → AllZip (TakesTurn c told) files turns → BeginsTurn c p (content_of told p.1) t
     → HaveTurns c told (files ++ p ∷ later) (turns ++ t ∷ [])
 turns_then c told [] p later [] t h begins = begins
 turns_then c told [] p later (u ∷ turns) t h begins = absurd h
@@ -190,9 +190,10 @@ module _ (c : Checks) (done later : List Opened) (o : Opened) (stop : Stop) (a b
   unfolding turns turn
   have_turns =
       subst (λ (ps : List (ℕ × DataFile)). HaveTurns c a ps (h.turns ++ turn ∷ [])) (sym (map-append pair_of done (o ∷ later)) ∙ at.all)
-      (turns_then c a (map pair_of done) (pair_of o) (map pair_of later) h.turns turn h.each (begins s.order))
+      (turns_then c a (map pair_of done) (pair_of o) (map pair_of later) h.turns turn h.each
+      (record { wanted = subst (λ (l : List ℕ). AreWanted c (pair_of o) l s.counts) left s.wanted; order = begins s.order }))
     where
-      begins : (s.lengths ≡ []) ⊎ (sum s.counts ≡ length (rest_of b o.at)) → BeginsTurn (content_of a o.file) turn
+      begins : (s.lengths ≡ []) ⊎ (sum s.counts ≡ length (rest_of b o.at)) → (s.lengths ≡ []) ⊎ (sum s.counts ≡ length (content_of a o.file))
       begins (inl none) = inl none
       begins (inr all) = inr (all ∙ ap length left)
 

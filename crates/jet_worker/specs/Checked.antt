@@ -1,7 +1,8 @@
 -- What the answers of a check of a job's files say.
-use Rattle.std.specs.Prelude.{◌≡◌, ◌⊎◌, ℕ, ◌+◌, Bool, true, false, pos, List, [], ◌∷◌, ◌++◌, length, map, sum, take, flat_map, slice_get, All, Any, Option, Some, None, IsSome, IsSomeAnd, ⊤}
+use Rattle.std.specs.Prelude.{◌≡◌, ◌⊎◌, ℕ, ◌+◌, ◌<◌, Bool, true, false, pos, List, [], ◌∷◌, ◌++◌, length, map, sum, take, flat_map, slice_get, All, Any, Option, Some, None, IsSome, IsSomeAnd, ⊤}
 use Rattle.std.specs.List.{AllZip, enumerate_from}
 use Rattle.std.specs.Option.{unwrap_or}
+use Rattle.jet_lines.specs.Files.{through_last_feed}
 use Rattle.jet_lines.specs.declared.fault.LineFault.{LineFault}
 use Rattle.jet_file.specs.Outside.{Told, CallMade}
 use Rattle.jet_file.specs.declared.outside.Out.TheVariants as out
@@ -52,20 +53,28 @@ pub record IsRead (before now : ℕ → Bool) (calls : List CallMade) (old new :
   pub opened : now at ≡ true
   pub place : IsSomeAnd (old.content (file_name p.1)) (λ content. new.place at ≡ record { name = file_name p.1; taken = length content })
 
+-- Reads of these counts of a file with these bytes were wanted: before each, no read had found the end, and no whole line of
+-- the bytes taken was bad.
+abbrev pub AreWanted : Checks → ℕ × DataFile → List ℕ → List ℕ → Type 0
+AreWanted c p bytes counts = (front back : List ℕ) (n : ℕ) → counts ≡ front ++ n ∷ back
+    → All (λ m. 0 < m) front × (first_bad c p (through_last_feed (take (sum front) bytes)) ≡ None)
+
 -- the whole turn of a file with these bytes: its reads come to their number, and its writes to the length of its line
 pub record IsTurnOf (c : Checks) (p : ℕ × DataFile) (bytes : List ℕ) (t : Turn) : Type 0 where
+  pub wanted : AreWanted c p bytes t.counts
   pub reads : sum t.counts ≡ length bytes
   pub writes : sum t.lengths ≡ length (check_line c p bytes)
 
 -- the turn of a file with these bytes so far: nothing is written before all are read
-abbrev pub BeginsTurn : List ℕ → Turn → Type 0
-BeginsTurn bytes t = (t.lengths ≡ []) ⊎ (sum t.counts ≡ length bytes)
+pub record BeginsTurn (c : Checks) (p : ℕ × DataFile) (bytes : List ℕ) (t : Turn) : Type 0 where
+  pub wanted : AreWanted c p bytes t.counts
+  pub order : (t.lengths ≡ []) ⊎ (sum t.counts ≡ length bytes)
 
 -- these turns are those of the first of these files, each whole before the next begins
 abbrev pub HaveTurns : Checks → Told → List (ℕ × DataFile) → List Turn → Type 0
 HaveTurns c told files [] = ⊤
 HaveTurns c told [] (t ∷ turns) = ⊥
-HaveTurns c told (p ∷ files) (t ∷ []) = BeginsTurn (content_of told p.1) t
+HaveTurns c told (p ∷ files) (t ∷ []) = BeginsTurn c p (content_of told p.1) t
 HaveTurns c told (p ∷ files) (t ∷ next ∷ turns) = IsTurnOf c p (content_of told p.1) t × HaveTurns c told files (next ∷ turns)
 
 -- all files were read and are good, and the whole check text was written, and no other byte

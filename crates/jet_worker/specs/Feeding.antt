@@ -1,5 +1,5 @@
 -- What the steps of a run do on the outside.
-use Rattle.std.specs.Prelude.{◌≡◌, ◌≢◌, ℕ, ◌+◌, ◌<◌, ◌≤◌, Bool, true, List, [], ◌∷◌, ◌++◌, length, map, sum, Result, Ok, Err, ◌⊎◌}
+use Rattle.std.specs.Prelude.{◌≡◌, ◌≢◌, ℕ, ◌+◌, ◌<◌, ◌≤◌, Bool, true, false, List, [], ◌∷◌, ◌++◌, length, map, sum, Result, Ok, Err, ◌⊎◌}
 use Rattle.jet_file.specs.Outside.{Told, CallMade, Tried, Opening, Reading, Writing, Wrote, Read, OpensFile, ReadsFile, AddsNumber, rest_of}
 use Rattle.jet_file.specs.Writing.{HasWritten}
 use Rattle.jet_file.specs.declared.outside.Out.{Out}
@@ -12,7 +12,6 @@ use Rattle.jet_worker.specs.declared.stop.Call.{Call}
 use Rattle.jet_worker.specs.declared.stop.Call.TheVariants as call
 use Rattle.jet_worker.specs.declared.stop.Spot.{Spot}
 use Rattle.jet_worker.specs.declared.stop.Stop.{Stop}
-use Rattle.jet_worker.specs.declared.stop.Stop.TheVariants.{NoMemory}
 
 -- a step of one call stopped: that call came alone where it failed, and all else is as it was
 pub record FailsAt (call : Call) (spot : Spot) (tried : Tried) (stop : Stop) (old new : Told) : Type 0 where
@@ -80,6 +79,7 @@ pub record TakesPiece (file : ℕ) (before after : LinesValue) (old new : Told) 
   pub piece : List ℕ
   pub small : length piece ≤ most_piece
   pub lines : after.rest ≡ before.rest ++ piece
+  pub some : after.ended ≡ false → 0 < length piece
   pub end : after.ended ≡ true → rest_of new file ≡ []
   pub rest : rest_of old file ≡ piece ++ rest_of new file
   pub content : new.content ≡ old.content
@@ -91,7 +91,7 @@ pub record TakesPiece (file : ℕ) (before after : LinesValue) (old new : Told) 
 
 -- the bytes that came were put, or the file has ended
 abbrev pub PutsPiece : LinesValue → LinesValue → Type 0
-PutsPiece before after = ((piece : List ℕ) × (0 < length piece) × (length piece ≤ most_piece) × (after ≡ record before { rest = before.rest ++ piece; held = after.held })) ⊎ (after ≡ record before { ended = true })
+PutsPiece before after = ((piece : List ℕ) × (0 < length piece) × (length piece ≤ most_piece) × (after ≡ record before { rest = before.rest ++ piece; held = after.held })) ⊎ (after ≡ record before { ended = true; held = after.held })
 
 -- the reading of an opened file stopped after reads of these counts, and nothing was written
 pub record StopsReads (spot : Spot) (file : ℕ) (stop : Stop) (old new : Told) : Type 0 where
@@ -108,15 +108,10 @@ abbrev pub ReadsBytes : Spot → ℕ → List ℕ → Result ℕ Stop → Told �
 ReadsBytes spot file buffer (Ok n) old new = ReadsFile file buffer n old new
 ReadsBytes spot file buffer (Err stop) old new = FailsAt call.Read spot (Reading file) stop old new
 
--- the read came alone and failed, or want of memory came before it; or it read a piece that no memory was found to keep
-abbrev pub FailsPiece : Spot → ℕ → Stop → Told → Told → Type 0
-FailsPiece spot file stop old new = FailsAt call.Read spot (Reading file) stop old new
-    ⊎ ((stop ≡ NoMemory) × (buffer : List ℕ) × (n : ℕ) × (n ≤ most_piece) × ReadsFile file buffer n old new)
-
--- the next bytes of the file were put to its lines; or the reading stopped
+-- the next bytes of the file were put to its lines; or the reading stopped, and nothing was taken
 abbrev pub ReadsPiece : {T : Type 0} → Spot → ℕ → LinesValue → LinesValue → Result T Stop → Told → Told → Type 0
 ReadsPiece spot file before after (Ok done) old new = TakesPiece file before after old new
-ReadsPiece spot file before after (Err stop) old new = StopsReads spot file stop old new
+ReadsPiece spot file before after (Err stop) old new = FailsAt call.Read spot (Reading file) stop old new
 
 -- the file was opened; or the opening stopped
 abbrev pub OpensData : Spot → List ℕ → Result ℕ Stop → Told → Told → Type 0

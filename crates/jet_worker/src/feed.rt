@@ -1,7 +1,7 @@
 // The steps of a run on the outside: opening, reading a piece, writing a text. Each names the call that fails.
-ghost use Rattle.std.specs.Prelude.{◌≡◌, ◌≤◌, ◌<◌, length, IsTrue, OnOk, IfOk, false, true, ◌++◌, IfErr};
+ghost use Rattle.std.specs.Prelude.{◌≡◌, ◌≤◌, ◌<◌, ◌+◌, ◌*◌, length, max, IsTrue, OnOk, IfOk, false, true, IfErr};
 ghost use Rattle.jet_file.specs.Outside.{WhereTold, LacksFile};
-ghost use Rattle.jet_worker.specs.Feeding.{AddsData, FailsPiece, Flushes, OpensData, PutsPiece, ReadsBytes, ReadsPiece, WritesText};
+ghost use Rattle.jet_worker.specs.Feeding.{AddsData, Flushes, OpensData, PutsPiece, ReadsBytes, ReadsPiece, WritesText};
 ghost use Rattle.jet_worker.specs.Stopping.{IsForOutside, IsNoBadLine, IsOfCall, OpenOutcome, Outcome};
 ghost use Rattle.jet_worker.specs.inner.Stopped.{stop_of, spot_of};
 
@@ -48,7 +48,9 @@ pub fn read_bytes<O: Outside>(
 // The most bytes of a piece.
 const MOST_PIECE: usize = 4096;
 
-/// Reads the next piece of a data file to its lines, of at most 4096 bytes. After an error the lines are as they were.
+/// Reads the next piece of a data file to its lines, of at most 4096 bytes. Room for it is made before, so that no byte is
+/// lost: after an error the file and the lines are as they were. Memory stays flat: lines hold at most twice the last line,
+/// what is left and two bytes, and a piece, unless they held more before.
 pub fn read_piece<O: Outside>(
     out: &mut O,
     spot: Spot,
@@ -59,18 +61,24 @@ pub fn read_piece<O: Outside>(
     requires open { lines.old.ended ≡ false }
     ensures told { WhereTold (ReadsPiece spot file lines.old lines.new result) (O.told out.old) (O.told out.new) }
     ensures lines { OnOk result (PutsPiece lines.old lines.new) }
-    ensures alone { IfErr result (λ stop. WhereTold (FailsPiece spot file stop) (O.told out.old) (O.told out.new)) }
     ensures kept { IfErr result (λ stop. lines.new ≡ record lines.old { held = lines.new.held }) }
+    ensures flat { lines.new.held ≤ max lines.old.held (2 * (length lines.old.line + 2 + length lines.old.rest) + 4096) }
     ensures outcome { Outcome O.opened O.steady O.faults out.old out.new result }
     ensures no_bad_line { IfErr result IsNoBadLine }
 {
+    if lines.reserve(MOST_PIECE).is_err() {
+        return Err(Stop::NoMemory);
+    }
     let mut buf = [0; MOST_PIECE];
     match read_bytes(out, spot, file, &mut buf) {
         Ok(0) => {
             lines.end();
             Ok(())
         }
-        Ok(count) => put_piece(lines, &buf[..count]),
+        Ok(count) => {
+            lines.append(&buf[..count]);
+            Ok(())
+        }
         Err(stop) => Err(stop),
     }
 }
@@ -118,17 +126,5 @@ fn stop_of(fault: OutFault, call: Call, file: Spot) -> Stop
     match fault {
         OutFault::Failed => Stop::Outside { call, file },
         OutFault::NoMemory => Stop::NoMemory,
-    }
-}
-
-fn put_piece(lines: &mut Lines, piece: &[u8]) -> Result<(), Stop>
-    requires open { lines.old.ended ≡ false }
-    ensures ok { OnOk result (lines.new ≡ record lines.old { rest = lines.old.rest ++ piece.now; held = lines.new.held }) }
-    ensures err { IfErr result (λ stop. stop ≡ Stop.NoMemory) }
-    ensures kept { IfErr result (λ stop. lines.new ≡ record lines.old { held = lines.new.held }) }
-{
-    match lines.put(piece) {
-        Ok(()) => Ok(()),
-        Err(_) => Err(Stop::NoMemory),
     }
 }

@@ -3,7 +3,8 @@ ghost use Rattle.jet_worker.specs.inner.LineLaws.{LineLaws};
 
 use jet_lines::{
     a_good_line_more, a_line_is_read_by_its_number, a_long_line_has_its_fault, all_lines_are_good,
-    an_event_has_its_place, one_line_too_many, side_lines_are_read_in_order, the_first_bad_line,
+    an_event_has_its_place, given_lines_are_whole, one_line_too_many, side_lines_are_read_in_order,
+    the_first_bad_line,
 };
 
 /// What holds of the lines of files, whatever they are.
@@ -18,4 +19,5 @@ pub(crate) fn laws_of_lines()
     one_line_too_many();
     all_lines_are_good();
     side_lines_are_read_in_order();
+    given_lines_are_whole();
 }

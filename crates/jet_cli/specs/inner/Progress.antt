@@ -1,24 +1,25 @@
 -- How far the run over one file has come.
-use Rattle.std.specs.Prelude.{◌≡◌, ℕ, ◌+◌, ◌<◌, Bool, true, pos, List, [], ◌++◌, length, All, Option, Some, None, option_to_list, Ok, codes, flat_map}
+use Rattle.std.specs.Prelude.{◌≡◌, ◌≢◌, ℕ, ◌+◌, ◌<◌, Bool, true, false, pos, List, [], ◌++◌, length, All, Option, Some, None, option_to_list, Ok, codes, flat_map}
 use Rattle.jet_items.specs.Values.{EventValue, RowValue}
 use Rattle.jet_lines.specs.Cutting.{MayCome}
 use Rattle.jet_lines.specs.Files.{are_good, events_in, most_lines}
 use Rattle.jet_lines.specs.Lines.{lines_of}
 use Rattle.jet_lines.specs.LinesValue.{LinesValue}
 use Rattle.jet_lines.specs.Readings.{event_line}
-use Rattle.jet_file.specs.Outside.{Told, CallMade, WhereTold, rest_of}
+use Rattle.jet_file.specs.Outside.{Told, CallMade, Read, WhereTold, rest_of}
+use Rattle.jet_file.specs.Pace.{taken_by, wrote_by}
 use Rattle.jet_file.specs.Text.{row_line, late_line}
 use Rattle.jet_file.specs.declared.outside.Out.TheVariants.{Rows, Notes}
 use Rattle.jet_cli.specs.Counting.{Counts, late_among, mark_after}
 use Rattle.jet_worker.specs.Calls.{ReadsOrWrites}
 use Rattle.jet_worker.specs.Feeding.{Appends}
-use Rattle.jet_cli.specs.Pacing.{HasPaced}
+use Rattle.jet_cli.specs.Pacing.{HasPaced, ReadsReady}
 use Rattle.jet_cli.specs.inner.Took.{ClosesOn, Prints, late_text_of}
 use Rattle.jet_cli.specs.Words.{WindowCommand}
 use Rattle.jet_cli.specs.declared.counter.WindowCounter.{WindowCounter}
 
--- these bytes of the file were taken, to the end where it has ended, and these texts were written
-pub record HasRun (file : ℕ) (bytes : List ℕ) (ended : Bool) (rows notes : List ℕ) (old now : Told) : Type 0 where
+-- these bytes of the file were taken, to the end where it has ended, in reads for which all was ready, and these texts were written
+pub record HasRun (c : WindowCommand) (file : ℕ) (bytes : List ℕ) (ended : Bool) (rows notes : List ℕ) (old now : Told) : Type 0 where
   pub rest : rest_of old file ≡ bytes ++ rest_of now file
   pub end : ended ≡ true → rest_of now file ≡ []
   pub content : now.content ≡ old.content
@@ -28,6 +29,10 @@ pub record HasRun (file : ℕ) (bytes : List ℕ) (ended : Bool) (rows notes : L
   pub notes_written : now.written Notes ≡ old.written Notes ++ notes
   pub calls : List CallMade
   pub quiet : All ReadsOrWrites calls
+  pub taken_is : taken_by file calls ≡ length bytes
+  pub wrote_notes : wrote_by Notes calls ≡ length notes
+  pub live : ended ≡ false → All (λ call. call ≢ Read file 0) calls
+  pub ready : ReadsReady c (rest_of old file) file calls
   pub trace : now.trace ≡ old.trace ++ calls
 
 -- the lines of rows, and of late events, of the one window
@@ -51,7 +56,7 @@ pub record Progress (c : WindowCommand) (file : ℕ) (start now : Option Told) (
   pub prints : Prints c w
   pub no_rows : w.rows.items ≡ []
   pub no_notes : w.notes.items ≡ []
-  pub told : WhereTold (HasRun file bytes lines.ended (base_rows_text c table) (base_late_text (late_among c (events_in most_lines 0 given)))) start now
+  pub told : WhereTold (HasRun c file bytes lines.ended (base_rows_text c table) (base_late_text (late_among c (events_in most_lines 0 given)))) start now
   pub paced : WhereTold (HasPaced c file bytes (mark_after c (events_in most_lines 0 given)) table) start now
 
 -- the late line of what a line holds, where it holds an event that is behind

@@ -1,5 +1,5 @@
 -- The reading and the check of one opened file.
-use Rattle.std.specs.Prelude.{◌≡◌, ◌≢◌, ◌⊎◌, ℕ, ◌+◌, Bool, true, List, [], ◌++◌, length, map, sum, Option, Some, None, Result, Ok, Err, ⊤}
+use Rattle.std.specs.Prelude.{◌≡◌, ◌≢◌, ◌⊎◌, ℕ, ◌+◌, ◌<◌, Bool, true, false, All, List, [], ◌++◌, length, map, sum, Option, Some, None, Result, Ok, Err, ⊤}
 use Rattle.jet_lines.specs.Cutting.{MayCome}
 use Rattle.jet_lines.specs.Lines.{lines_of}
 use Rattle.jet_lines.specs.LinesValue.{LinesValue}
@@ -8,6 +8,7 @@ use Rattle.jet_file.specs.declared.outside.Out.TheVariants as out
 use Rattle.jet_flow.specs.DataFiles.{DataFile}
 use Rattle.jet_worker.specs.Calls.{ArePieces, turn_calls}
 use Rattle.jet_worker.specs.CheckText.{Checks, check_line, first_bad}
+use Rattle.jet_worker.specs.Checked.{AreWanted}
 use Rattle.jet_worker.specs.Feeding.{StopsReads}
 use Rattle.jet_worker.specs.Stopping.{IsCallIn, IsNoBadLine, LastIs}
 use Rattle.jet_worker.specs.inner.Tallying.{Tallied}
@@ -16,8 +17,8 @@ use Rattle.jet_worker.specs.declared.stop.Stop.{Stop}
 use Rattle.jet_worker.specs.declared.stop.Stop.TheVariants.{BadLine, Outside, NoMemory}
 use Rattle.jet_worker.specs.declared.tally.Tally.{Tally}
 
--- these bytes of the file were taken, to the end where it has ended, and nothing was written
-pub record HasTaken (at : ℕ) (bytes : List ℕ) (ended : Bool) (old now : Told) : Type 0 where
+-- these bytes of the file with its number were taken, to the end where it has ended, in reads that were wanted, and nothing was written
+pub record HasTaken (c : Checks) (p : ℕ × DataFile) (at : ℕ) (bytes : List ℕ) (ended : Bool) (old now : Told) : Type 0 where
   pub rest : rest_of old at ≡ bytes ++ rest_of now at
   pub end : ended ≡ true → rest_of now at ≡ []
   pub content : now.content ≡ old.content
@@ -28,6 +29,8 @@ pub record HasTaken (at : ℕ) (bytes : List ℕ) (ended : Bool) (old now : Told
   pub counts : List ℕ
   pub sum : sum counts ≡ length bytes
   pub pieces : ArePieces counts
+  pub live : ended ≡ false → All (λ n. 0 < n) counts
+  pub wanted : AreWanted c p (rest_of old at) counts
   pub trace : now.trace ≡ old.trace ++ map (Read at) counts
 
 -- these bytes of the file were taken and cut into these lines, which were counted
@@ -38,13 +41,13 @@ pub record Progress (c : Checks) (p : ℕ × DataFile) (at : ℕ) (start now : O
   pub number : lines.number ≡ length given
   pub cut : (more : List ℕ) → MayCome lines.ended more → lines_of (bytes ++ more) ≡ given ++ lines_of (lines.rest ++ more)
   pub tallied : Tallied c p given tally
-  pub told : WhereTold (HasTaken at bytes lines.ended) start now
+  pub told : WhereTold (HasTaken c p at bytes lines.ended) start now
 
 -- all that was left of the file was taken, and its lines were counted
 pub record HasTallied (c : Checks) (p : ℕ × DataFile) (at count : ℕ) (tally : Tally) (old now : Told) : Type 0 where
   pub bytes : List ℕ
   pub left : rest_of old at ≡ bytes
-  pub run : HasTaken at bytes true old now
+  pub run : HasTaken c p at bytes true old now
   pub tallied : Tallied c p (lines_of bytes) tally
   pub count_is : count ≡ length (lines_of bytes)
 
@@ -58,6 +61,7 @@ IsBadIn c p bytes NoMemory = ⊤
 pub record StopsReading (c : Checks) (p : ℕ × DataFile) (at : ℕ) (stop : Stop) (old new : Told) : Type 0 where
   pub bad : IsBadIn c p (rest_of old at) stop
   pub reads : StopsReads (Part p.0) at stop old new
+  pub wanted : AreWanted c p (rest_of old at) reads.counts
 
 -- the lines of the file were counted to its end; or the reading stopped
 abbrev pub TalliesFile : Checks → ℕ × DataFile → ℕ → Tally → Result ℕ Stop → Told → Told → Type 0
@@ -77,6 +81,7 @@ pub record HasChecked (c : Checks) (p : ℕ × DataFile) (at : ℕ) (old now : T
   pub notes : now.written out.Notes ≡ old.written out.Notes
   pub counts : List ℕ
   pub pieces : ArePieces counts
+  pub wanted : AreWanted c p bytes counts
   pub reads : sum counts ≡ length bytes
   pub lengths : List ℕ
   pub writes : sum lengths ≡ length (check_line c p bytes)
@@ -98,6 +103,7 @@ pub record StopsChecking (c : Checks) (p : ℕ × DataFile) (at : ℕ) (stop : S
   pub notes : new.written out.Notes ≡ old.written out.Notes
   pub counts : List ℕ
   pub pieces : ArePieces counts
+  pub wanted : AreWanted c p (rest_of old at) counts
   pub lengths : List ℕ
   pub order : (lengths ≡ []) ⊎ (sum counts ≡ length (rest_of old at))
   pub last : List CallMade

@@ -2,7 +2,8 @@
 use Rattle.std.specs.Prelude.{◌≡◌, ◌+◌, ◌<◌, ◌≤◌, ◌∷◌, ◌++◌, [], ℕ, List, length, map, filter_map, Option, Some, Result, Ok, Err, is_ok, true}
 use Rattle.std.specs.List.{enumerate_from, list_all}
 use Rattle.jet_items.specs.Values.{EventValue, SideValue}
-use Rattle.jet_lines.specs.Files.{EndAt, GoOn, HoldAll, are_good, fault_of, first_of, item_of, items_of, numbered_at, readings_in}
+use Rattle.jet_lines.specs.Feeds.{NoFeed}
+use Rattle.jet_lines.specs.Files.{EndAt, GoOn, HoldAll, are_good, fault_of, first_of, item_of, items_of, numbered_at, readings_in, whole_lines}
 use Rattle.jet_lines.specs.Lines.{lines_of}
 use Rattle.jet_lines.specs.Readings.{event_line, side_line}
 use Rattle.jet_lines.specs.declared.fault.LineFault.{LineFault}
@@ -35,7 +36,9 @@ pub record SideLaws : Type 0 where
   pub first_fault : (n : ℕ) (good later : List (Result (Option SideValue) LineFault)) (fault : LineFault) → list_all is_ok good ≡ true
       → first_of (filter_map fault_of (enumerate_from n (good ++ Err fault ∷ later))) ≡ Some (n + length good, fault)
 
--- of both
+-- of both, and of the lines that were given of a file however it goes on
 pub record LineLaws : Type 0 where
   pub events : EventLaws
   pub sides : SideLaws
+  pub whole : (content rest : List ℕ) (given : List (List ℕ)) → ((more : List ℕ) → lines_of (content ++ more) ≡ given ++ lines_of (rest ++ more)) → NoFeed rest (length rest)
+      → whole_lines content ≡ given

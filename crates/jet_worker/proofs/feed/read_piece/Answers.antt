@@ -1,22 +1,25 @@
-use Rattle.std.proofs.Common.{◌≤◌, length, arith}
+use Rattle.std.proofs.Common.{◌<◌, ◌≤◌, length, take, arith}
+use Rattle.jet_file.specs.Outside.{Reading}
 use Rattle.jet_worker.specs.Calls.{most_piece}
-use Rattle.jet_worker.proofs.FeedLemmas.{goes_kept, goes_piece_fails, goes_read_stops, goes_unkept_piece}
+use Rattle.jet_worker.specs.declared.stop.Call.TheVariants.{Read}
+use Rattle.jet_worker.proofs.FeedLemmas.{appended, goes_piece, goes_uncalled, puts_end, puts_piece}
 use Rattle.jet_worker.proofs.feed.read_piece.Goals as goal
+
+pub returns-then-is_err-clause-told : goal.returns-then-is_err-clause-told
+returns-then-is_err-clause-told g c = goes_uncalled Read c.args.spot (Reading c.args.file) (g.O.Outside.told c.args.out.now)
 
 pub returns-in-Ok-clause-told : goal.returns-in-Ok-clause-told
 returns-in-Ok-clause-told g c =
     let most : length c.read_bytes.new.buf ≤ most_piece = omega (arith, c.read_bytes.auto.buf) in
-    goes_kept c.args.spot c.args.file c.read_bytes.new.buf c.in-Ok.count c.args.lines.now c.put_piece.new.lines c.put_piece.result (g.O.Outside.told c.args.out.now) (g.O.Outside.told c.read_bytes.new.out)
-    c.in-Ok.ensures.bound most c.requires.open c.put_piece.ensures.ok c.put_piece.ensures.err c.in-Ok.ensures.told
+    let more : 0 < c.in-Ok.count = omega arith in
+    goes_piece c.args.file c.read_bytes.new.buf c.in-Ok.count c.args.lines.now c.append.new.self (g.O.Outside.told c.args.out.now) (g.O.Outside.told c.read_bytes.new.out)
+    more c.in-Ok.ensures.bound most c.requires.open (appended c.args.lines.now c.reserve.new.self c.append.new.self (take c.in-Ok.count c.read_bytes.new.buf) c.reserve.ensures.same c.append.ensures) c.in-Ok.ensures.told
 
-pub returns-in-Ok-clause-alone : goal.returns-in-Ok-clause-alone
-returns-in-Ok-clause-alone g c =
+pub returns-in-Ok-clause-lines : goal.returns-in-Ok-clause-lines
+returns-in-Ok-clause-lines g c =
     let most : length c.read_bytes.new.buf ≤ most_piece = omega (arith, c.read_bytes.auto.buf) in
-    goes_unkept_piece c.args.spot c.args.file c.read_bytes.new.buf c.in-Ok.count c.put_piece.result (g.O.Outside.told c.args.out.now) (g.O.Outside.told c.read_bytes.new.out)
-    c.in-Ok.ensures.bound most c.put_piece.ensures.err c.in-Ok.ensures.told
+    let more : 0 < c.in-Ok.count = omega arith in
+    puts_piece c.read_bytes.new.buf c.in-Ok.count c.args.lines.now c.reserve.new.self c.append.new.self more c.in-Ok.ensures.bound most c.reserve.ensures.same c.append.ensures
 
-pub returns-in-Err-clause-alone : goal.returns-in-Err-clause-alone
-returns-in-Err-clause-alone g c = goes_piece_fails c.args.spot c.args.file c.in-Err.stop (g.O.Outside.told c.args.out.now) (g.O.Outside.told c.read_bytes.new.out) c.in-Err.ensures.told
-
-pub returns-in-Err-clause-told : goal.returns-in-Err-clause-told
-returns-in-Err-clause-told g c = goes_read_stops c.args.spot c.args.file c.in-Err.stop (g.O.Outside.told c.args.out.now) (g.O.Outside.told c.read_bytes.new.out) c.in-Err.ensures.told
+pub returns-in-Ok-eq0-clause-lines : goal.returns-in-Ok-eq0-clause-lines
+returns-in-Ok-eq0-clause-lines g c = puts_end c.args.lines.now c.reserve.new.self c.end.new.self c.reserve.ensures.same c.end.ensures

@@ -22,4 +22,5 @@ returns c = record {
     no_fault = c.side_lines_are_read_in_order.ensures.no_fault;
     first_fault = c.side_lines_are_read_in_order.ensures.first_fault;
   };
+  whole = c.given_lines_are_whole.ensures.all;
 }

@@ -35,7 +35,7 @@ cuts-preserved g c =
     let same : c.read_piece.new.lines.number ≡ c.cuts.lines.number = number_stays c.cuts.lines c.next.new.self c.read_piece.new.lines c.in-More.ensures c.in_ok-read_piece-in-More.ensures.lines in
     record {
       progress = λ check f most tallied.
-          progress_piece check (c.args.part, f) c.args.file (g.O.Outside.told c.args.out.now) (g.O.Outside.told c.cuts.out) (g.O.Outside.told c.read_piece.new.out)
+          progress_piece c.laws_of_lines.ensures check (c.args.part, f) c.args.file (g.O.Outside.told c.args.out.now) (g.O.Outside.told c.cuts.out) (g.O.Outside.told c.read_piece.new.out)
           c.cuts.lines c.next.new.self c.read_piece.new.lines c.cuts.tally (c.cuts.invariant.progress check f most tallied) c.in-More.ensures c.in_ok-read_piece-in-More.ensures.lines c.in_ok-read_piece-in-More.ensures.told;
       small = subst (λ (n : ℕ). IsSmall n c.cuts.tally) (sym same) c.cuts.invariant.small;
       count_is = c.cuts.invariant.count_is ∙ sym same;
