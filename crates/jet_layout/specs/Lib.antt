@@ -1,3 +1,5 @@
+pub mod Counts
+pub mod Destinations
 pub mod Files
 pub mod Joints
 pub mod Layouts

@@ -12,6 +12,7 @@ mod files;
 mod instances;
 mod joint;
 mod joints;
+mod laws;
 mod layout;
 mod table;
 mod task;
@@ -20,6 +21,7 @@ mod wires;
 
 pub use end::EdgeEnd;
 pub use joint::Joint;
+pub use laws::layouts_have_what_is_counted;
 pub use layout::Layout;
 pub use table::partition_table;
 pub use task::{Instance, Link, Task};

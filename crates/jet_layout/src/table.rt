@@ -1,6 +1,7 @@
 // Which destination of an output takes a partition of keys.
 ghost use Rattle.std.specs.Prelude.{◌≡◌, ◌≤◌, ◌<◌, IfOk, map};
-ghost use Rattle.std.specs.List.{range_with_len};
+ghost use Rattle.std.specs.List.{All, range_with_len};
+ghost use Rattle.jet_layout.specs.Destinations.{destination_count, HasOutputs};
 ghost use Rattle.jet_layout.specs.Tables.{destination, table};
 
 use crate::Joint;
@@ -42,7 +43,8 @@ pub fn partition_table(
     requires members { (1 ≤ members) × (members ≤ 4) }
     requires member { member < members }
     requires instances { 1 ≤ joint.now.to.parallelism }
-    ensures { IfOk result (λ t. t.items ≡ table members joint.now across member) }
+    ensures table { IfOk result (λ t. t.items ≡ table members joint.now across member) }
+    ensures below { IfOk result (λ t. HasOutputs joint.now across member → All (λ d. d < destination_count members joint.now across member) t.items) }
 {
     let mut destinations = Vec::new(alloc);
     for partition in 0..271 {

@@ -1,0 +1,4 @@
+pub mod Channels
+pub mod Harness
+pub mod Places
+pub mod inner
