@@ -1,0 +1,5 @@
+pub mod Placewise
+pub mod Looking
+pub mod Ends
+pub mod Sweeping
+pub mod Linking

@@ -1,0 +1,18 @@
+//! The meetings of a job: between epochs the two ends of each ring learn of each other.
+//!
+//! All tasklets of a job stand in workers, behind one list (`jet_crew`). A `DestAt` and a `QueueAt` say where in that list the
+//! two ends of a ring stand, and a `Junction` is a ring between two tasklets. To let ends meet, tasklets are taken out of the
+//! list and put back; contracts tell what they know then, and that nothing else changed.
+#![tactic(auto)]
+
+mod drains;
+mod feeds;
+mod junctions;
+mod links;
+mod places;
+
+pub use drains::meet_drain;
+pub use feeds::meet_feed;
+pub use junctions::{Spares, meet_junction, meet_junctions};
+pub use links::meet_link_at;
+pub use places::{DestAt, Junction, LinkAt, QueueAt};
