@@ -50,13 +50,13 @@ queue_looked is ks i q rx p queue =
     (now, record { input = there.0; at = there.1; is = same }, refl)
 
 -- ---- the ends at their places
-dest_looked : (ts us : List AnyTasklet) (p : DestAt) (tx : TxView Item) → Placewise Looked ts us → HasDestAt ts p tx → (now : TxView Item) × HasDestAt us p now × (now.ring ≡ tx.ring)
+pub dest_looked : (ts us : List AnyTasklet) (p : DestAt) (tx : TxView Item) → Placewise Looked ts us → HasDestAt ts p tx → (now : TxView Item) × HasDestAt us p now × (now.ring ≡ tx.ring)
 dest_looked ts us p tx l h =
     let there = placewise_at Looked ts us p.task h.tasklet l h.at in
     let end = end_looked (outs h.tasklet) (outs there.0) p.output p.dest tx there.2.outputs h.end in
     (end.0, record { tasklet = there.0; at = there.1; end = end.1 }, end.2)
 
-queue_at_looked : (ts us : List AnyTasklet) (p : QueueAt) (rx : RxView Item) → Placewise Looked ts us → HasQueueAt ts p rx → (now : RxView Item) × HasQueueAt us p now × (now.ring ≡ rx.ring)
+pub queue_at_looked : (ts us : List AnyTasklet) (p : QueueAt) (rx : RxView Item) → Placewise Looked ts us → HasQueueAt ts p rx → (now : RxView Item) × HasQueueAt us p now × (now.ring ≡ rx.ring)
 queue_at_looked ts us p rx l h =
     let there = placewise_at Looked ts us p.task h.tasklet l h.at in
     let queue = queue_looked (ins h.tasklet) (ins there.0) p.input p.queue rx there.2.inputs h.end in

@@ -3,3 +3,5 @@ pub mod Looking
 pub mod Ends
 pub mod Sweeping
 pub mod Linking
+pub mod Feeding
+pub mod Attending

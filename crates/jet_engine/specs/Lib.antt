@@ -1,3 +1,4 @@
 pub mod Ends
 pub mod Looking
 pub mod Links
+pub mod Wiring

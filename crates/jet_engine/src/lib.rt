@@ -10,9 +10,13 @@ mod feeds;
 mod junctions;
 mod links;
 mod places;
+mod sweep;
+mod wiring;
 
 pub use drains::meet_drain;
 pub use feeds::meet_feed;
 pub use junctions::{Spares, meet_junction, meet_junctions};
 pub use links::meet_link_at;
 pub use places::{DestAt, Junction, LinkAt, QueueAt};
+pub use sweep::meet_all;
+pub use wiring::Wiring;
