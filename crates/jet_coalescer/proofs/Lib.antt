@@ -2,6 +2,7 @@ pub mod Least
 pub mod Lesser
 pub mod Ranks
 pub mod Playing
+pub mod OfQueues
 pub mod Told
 pub mod Bound
 pub mod Rising

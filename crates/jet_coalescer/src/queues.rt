@@ -16,15 +16,15 @@ pub struct Queues {
 }
 
 impl Model for Queues {
-    ghost use Rattle.std.specs.Prelude.{◌≡◌, List};
+    ghost use Rattle.std.specs.Prelude.{List};
     ghost use Rattle.jet_coalescer.specs.declared.queue.Queue.{Queue};
-    ghost use Rattle.jet_coalescer.specs.inner.Standings.{standings};
+    ghost use Rattle.jet_coalescer.specs.inner.Tournaments.{IsOf};
 
     ghost Value = { List Queue };
 
     ghost view = { λ q. q.queues.items };
 
-    ghost invariant = { λ q. q.tournament ≡ standings q.queues.items };
+    ghost invariant = { λ q. IsOf q.queues.items q.tournament };
 }
 
 impl Queues {

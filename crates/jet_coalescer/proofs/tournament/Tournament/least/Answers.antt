@@ -11,8 +11,8 @@ use Rattle.jet_coalescer.proofs.tournament.Tournament.least.Goals as goal
 
 pub returns : goal.returns
 returns c =
-    let two : 1 < length c.self.inside.ranks.items = omega (arith, c.self.invariant.0, length-map c.self.inside.ranks.items standing_at) in
+    let some : 0 < length c.self.inside.ranks.items = omega (arith, c.self.invariant.0, length-map c.self.inside.ranks.items standing_at) in
     let fits : SFits w64 c.index.result.now = search rules in
     c.mark_at.ensures
-    ∙ ap mark_of (ap standing_at (to_z-of_z fits ∙ c.index.ensures) ∙ (sym (get_or-map standing_at c.self.inside.ranks.items 1 c.index.result.now standing.Passes two)
-    ∙ (top (places c.self.inside.ranks.items) c.self.inside.count c.self.invariant (omega arith) ∙ ap least_of c.self.view_is)))
+    ∙ ap mark_of (ap standing_at (to_z-of_z fits ∙ c.index.ensures) ∙ (sym (get_or-map standing_at c.self.inside.ranks.items 0 c.index.result.now standing.Passes some)
+    ∙ (top (places c.self.inside.ranks.items) c.self.inside.first c.self.invariant ∙ ap least_of c.self.view_is)))
