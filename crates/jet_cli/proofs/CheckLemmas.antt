@@ -19,7 +19,7 @@ use Rattle.jet_worker.specs.declared.stop.Stop.TheVariants.{BadLine, Outside, No
 use Rattle.jet_plan.specs.Faults.{fault}
 use Rattle.jet_plan.specs.declared.dag.Dag.{Dag}
 use Rattle.jet_plan.specs.declared.settings.Settings.{Settings}
-use Rattle.jet_worker.proofs.OrderLemmas.{no_calls}
+use Rattle.jet_worker.proofs.CallLaws.{no_calls}
 use Rattle.jet_cli.specs.CallOrder.{ChecksJob, ReadsJob}
 use Rattle.jet_cli.specs.CheckedJob.{CheckHalts, IsCheckedJob, LacksFiles, WhyHalted}
 use Rattle.jet_cli.specs.JobChecks.{HasChecks}
@@ -33,7 +33,7 @@ use Rattle.jet_cli.specs.JobWords.{JobCommand}
 use Rattle.jet_cli.specs.Refusals.{job_refusal, text_refusal, with_options}
 use Rattle.jet_cli.specs.declared.status.Refusal.TheVariants as refusal
 use Rattle.jet_cli.proofs.EarlyLemmas.{none_known}
-use Rattle.jet_file.proofs.GoesLemmas.{goes_weaker}
+use Rattle.jet_file.proofs.GoesLaws.{goes_weaker}
 use Rattle.jet_cli.proofs.OrderLemmas.{fails_first, fails_later, reads_only}
 
 -- the files of a check are those of the job in the job file

@@ -26,9 +26,7 @@ use Rattle.jet_worker.specs.declared.stop.Spot.{Spot}
 use Rattle.jet_worker.specs.declared.stop.Spot.TheVariants.{Job}
 use Rattle.jet_worker.specs.declared.stop.Stop.{Stop}
 use Rattle.jet_worker.specs.declared.stop.Stop.TheVariants.{BadLine, Outside, NoMemory}
-use Rattle.jet_worker.proofs.CallLemmas.{ends_last, last_weaker, none_last, write_in}
-use Rattle.jet_worker.proofs.FeedLemmas.{write_last}
-use Rattle.jet_worker.proofs.OrderLemmas.{none_in}
+use Rattle.jet_worker.proofs.CallLaws.{ends_last, last_weaker, none_in, none_last, write_in, write_last}
 use Rattle.jet_cli.specs.CallOrder.{StopNamed, job_place, most_text}
 use Rattle.jet_cli.specs.Halts.{job_halt, plan_halt}
 use Rattle.jet_cli.specs.JobFiles.{ReadHalts, ReadsJobFile, ReadsPlan, StopsJob, WhyUnread}
@@ -39,7 +37,7 @@ use Rattle.jet_cli.specs.declared.halt.Halt.{Halt}
 use Rattle.jet_cli.specs.declared.halt.Halt.TheVariants.{Refused, Stopped}
 use Rattle.jet_cli.specs.declared.job_words.Options.{Options}
 use Rattle.jet_cli.specs.declared.status.Refusal.TheVariants as refusal
-use Rattle.jet_file.proofs.GoesLemmas.{goes_then, goes_weaker}
+use Rattle.jet_file.proofs.GoesLaws.{goes_then, goes_weaker}
 use Rattle.jet_cli.proofs.JobLemmas.{same_job, whole}
 use Rattle.jet_cli.proofs.OrderLemmas.{named_after, reads_job, reads_only}
 

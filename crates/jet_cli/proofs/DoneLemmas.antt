@@ -1,5 +1,5 @@
 -- What a run over a whole file comes to: what Done says, and which line is the first bad one.
-use Rattle.jet_worker.proofs.CallLemmas.{cancel, same_head, same_tail}
+use Rattle.jet_worker.proofs.CallLaws.{cancel, same_head, same_tail}
 use Rattle.jet_cli.proofs.ReadPlaces.{ready_opened}
 use Rattle.jet_file.specs.Pace.{IsPaced, Source, taken_by, wrote_by, rows_until}
 use Rattle.jet_cli.specs.Pacing.{HasPaced, KeepsPace, ReadsReady, base_ahead, base_mark, base_source}

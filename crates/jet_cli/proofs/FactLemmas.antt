@@ -31,7 +31,7 @@ use Rattle.jet_cli.specs.declared.halt.Halt.TheVariants.{Refused, Stopped}
 use Rattle.jet_cli.specs.declared.status.Refusal.{Refusal}
 use Rattle.jet_cli.specs.declared.status.Refusal.TheVariants as refusal
 use Rattle.jet_cli.proofs.AnswerLemmas.{in_time_is, never_bad, quiet_is}
-use Rattle.jet_file.proofs.GoesLemmas.{goes_same, goes_weaker}
+use Rattle.jet_file.proofs.GoesLaws.{goes_same, goes_weaker}
 use Rattle.jet_cli.proofs.MeetLemmas.{Begun, Facts, Fails, Halted}
 use Rattle.jet_cli.proofs.CheckLemmas.{job_checked, turns_all}
 

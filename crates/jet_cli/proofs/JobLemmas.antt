@@ -16,13 +16,12 @@ use Rattle.jet_worker.specs.declared.stop.Call.TheVariants.{Open}
 use Rattle.jet_worker.specs.declared.stop.Spot.{Spot}
 use Rattle.jet_worker.specs.declared.stop.Spot.TheVariants.{Job}
 use Rattle.jet_worker.specs.declared.stop.Stop.{Stop}
-use Rattle.jet_worker.proofs.CallLemmas.{ends_last, none_last}
-use Rattle.jet_worker.proofs.OrderLemmas.{none_in}
+use Rattle.jet_worker.proofs.CallLaws.{ends_last, none_in, none_last}
 use Rattle.jet_cli.specs.CallOrder.{job_place, most_text}
 use Rattle.jet_cli.specs.JobFiles.{ReadsJobFile, StopsJob}
 use Rattle.jet_cli.specs.inner.TextReading.{ReadsFront, StopsReading}
 use Rattle.jet_cli.proofs.DoneLemmas.{some_of}
-use Rattle.jet_file.proofs.GoesLemmas.{goes_then, goes_weaker}
+use Rattle.jet_file.proofs.GoesLaws.{goes_then, goes_weaker}
 use Rattle.jet_cli.proofs.OrderLemmas.{named_after, opening_named, reads_job, unopened}
 use Rattle.jet_file.proofs.ReadLemmas.{opened_rest}
 

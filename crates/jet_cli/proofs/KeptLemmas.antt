@@ -6,7 +6,7 @@ use Rattle.jet_items.specs.Marks.{is_behind}
 use Rattle.jet_items.specs.Values.{EventValue}
 use Rattle.jet_cli.specs.Counting.{late_among, kept_among}
 use Rattle.jet_cli.specs.Words.{WindowCommand}
-use Rattle.jet_worker.proofs.SourceLemmas.{AreBefore, behind_more, le}
+use Rattle.jet_worker.proofs.BehindLaws.{AreBefore, behind_more, le}
 
 filter_by_all : {X : Type 0} (p q : X → Bool) (xs : List X) → All (λ x. p x ≡ q x) xs → filter p xs ≡ filter q xs
 filter_by_all p q [] h = refl

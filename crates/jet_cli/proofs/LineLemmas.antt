@@ -22,7 +22,7 @@ use Rattle.std.proofs.lemmas.List.Elements.{All-append, All-nil}
 use Rattle.jet_cli.specs.declared.counter.WindowCounter.{WindowCounter}
 use Rattle.jet_worker.specs.declared.stop.Stop.{Stop}
 use Rattle.jet_worker.specs.declared.stop.Stop.TheVariants.{BadLine, Outside, NoMemory}
-use Rattle.jet_file.proofs.GoesLemmas.{goes_weaker, goes_same}
+use Rattle.jet_file.proofs.GoesLaws.{goes_weaker, goes_same}
 
 -- an event of a line was counted, and the texts of that written
 pub wrote_event : (c : WindowCommand) (events : List EventValue) (e : EventValue) (table : List RowValue) (n : ℕ) (line : List ℕ) (now next : Option Told) (old mid new : WindowCounter)

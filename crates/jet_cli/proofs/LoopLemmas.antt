@@ -15,14 +15,13 @@ use Rattle.jet_lines.specs.declared.cut.Cut.TheVariants as cut
 use Rattle.jet_lines.specs.declared.fault.LineFault.{LineFault}
 use Rattle.jet_file.specs.Text.{row_line}
 use Rattle.jet_file.specs.Outside.{Told, CallMade, WhereTold, Reading, OpensFile, AddsNumber, LacksFile}
-use Rattle.jet_file.proofs.GoesLemmas.{goes_same, goes_then, goes_weaker}
+use Rattle.jet_file.proofs.GoesLaws.{goes_same, goes_then, goes_weaker}
 use Rattle.jet_cli.specs.Counting.{Counts, late_among, mark_after}
 use Rattle.jet_cli.specs.Done.{IsDone}
 use Rattle.jet_cli.specs.inner.Ending.{Ends}
 use Rattle.jet_worker.specs.Calls.{Calling}
 use Rattle.jet_worker.specs.Feeding.{FailsAt, PutsPiece, TakesPiece}
-use Rattle.jet_worker.proofs.CallLemmas.{last_weaker, write_in}
-use Rattle.jet_worker.proofs.FeedLemmas.{read_last}
+use Rattle.jet_worker.proofs.CallLaws.{last_weaker, read_last, write_in}
 use Rattle.jet_cli.specs.LineStops.{LineStop, IsBadIn, IsBadLineAt, IsWrote, RunStops, StepStops}
 use Rattle.jet_cli.specs.inner.Progress.{HasRun, Progress, TookLine, base_rows_text, base_late_text}
 use Rattle.jet_worker.specs.Stopping.{IsCallIn, IsWriting, IsForOutside, IsNoBadLine, CauseOfStop, Outcome, OpenOutcome}

@@ -12,8 +12,7 @@ use Rattle.jet_worker.specs.declared.stop.Spot.{Spot}
 use Rattle.jet_worker.specs.declared.stop.Spot.TheVariants.{Job, Part, Rows, Notes}
 use Rattle.jet_worker.specs.declared.stop.Stop.{Stop}
 use Rattle.jet_worker.specs.declared.stop.Stop.TheVariants.{BadLine, Outside, NoMemory}
-use Rattle.jet_worker.proofs.CallLemmas.{none_turn, opened_by-append, opened_by_turn}
-use Rattle.jet_worker.proofs.OrderLemmas.{call_named, no_calls}
+use Rattle.jet_worker.proofs.CallLaws.{call_named, no_calls, none_turn, opened_by-append, opened_by_turn}
 use Rattle.jet_cli.specs.CallOrder.{ReadsJob, StopNamed, check_place, job_place, most_text}
 
 -- ---- the calls for a job file

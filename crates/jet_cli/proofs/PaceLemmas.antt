@@ -11,16 +11,16 @@ use Rattle.jet_file.specs.Outside.{Told, WhereTold, CallMade, Read, Wrote, rest_
 use Rattle.jet_file.specs.Pace.{taken_by, wrote_by, rows_until}
 use Rattle.jet_file.specs.Text.{row_line}
 use Rattle.jet_file.specs.declared.outside.Out.TheVariants.{Rows, Notes}
-use Rattle.jet_file.proofs.PaceLemmas.{taken_by-append, wrote_by-append}
+use Rattle.jet_file.proofs.PaceLaws.{taken_by-append, wrote_by-append}
 use Rattle.jet_worker.specs.Calls.{ReadsOrWrites}
 use Rattle.jet_worker.specs.Feeding.{Appends, TakesPiece}
-use Rattle.jet_worker.proofs.CallLemmas.{cancel, none_reads, none_writes, one_piece, split_last}
+use Rattle.jet_worker.proofs.CallLaws.{cancel, none_reads, none_writes, one_piece, split_last}
 use Rattle.jet_cli.proofs.ReadPlaces.{NoRead, none_splits, reads_none, reads_none_both, split_front, notes_in_rows, took_none, took_one, wrote_own}
 use Rattle.jet_cli.specs.Pacing.{HasPaced, base_ahead, base_mark}
 use Rattle.jet_cli.specs.inner.Progress.{base_rows_text}
 use Rattle.jet_cli.specs.Words.{WindowCommand}
 use Rattle.jet_cli.proofs.RunLemmas.{rest_stays}
-use Rattle.jet_file.proofs.GoesLemmas.{goes_then, goes_same}
+use Rattle.jet_file.proofs.GoesLaws.{goes_then, goes_same}
 use Rattle.jet_lines.specs.Files.{events_in, most_lines, whole_lines}
 use Rattle.jet_cli.specs.Counting.{mark_after}
 use Rattle.jet_cli.specs.inner.Took.{ClosesOn}

@@ -15,7 +15,7 @@ use Rattle.jet_worker.specs.declared.stop.Call.TheVariants.{Open}
 use Rattle.jet_worker.specs.declared.stop.Spot.{Spot}
 use Rattle.jet_worker.specs.declared.stop.Stop.{Stop}
 use Rattle.jet_worker.specs.declared.stop.Stop.TheVariants.{BadLine, Outside, NoMemory}
-use Rattle.jet_worker.proofs.CallLemmas.{same_head, same_tail}
+use Rattle.jet_worker.proofs.CallLaws.{same_head, same_tail}
 use Rattle.jet_cli.specs.LineStops.{IsWrote}
 use Rattle.jet_cli.specs.Pacing.{IsReady, ReadsOn, ReadsReady}
 use Rattle.jet_cli.specs.Words.{WindowCommand}

@@ -5,15 +5,15 @@ use Rattle.std.proofs.Math.Seq.{take-append_seam}
 use Rattle.jet_file.specs.Outside.{Told, Place, CallMade, Read, Wrote, WhereTold, rest_of, rest_from}
 use Rattle.jet_file.specs.Pace.{taken_by}
 use Rattle.jet_file.specs.declared.outside.Out.TheVariants.{Rows, Notes}
-use Rattle.jet_file.proofs.GoesLemmas.{goes_then, goes_same}
-use Rattle.jet_file.proofs.PaceLemmas.{taken_by-append, wrote_by-append}
+use Rattle.jet_file.proofs.GoesLaws.{goes_then, goes_same}
+use Rattle.jet_file.proofs.PaceLaws.{taken_by-append, wrote_by-append}
 use Rattle.jet_lines.specs.Files.{are_good, most_lines, whole_lines}
 use Rattle.jet_lines.specs.LinesValue.{LinesValue}
 use Rattle.jet_lines.specs.Readings.{event_line}
 use Rattle.std.proofs.lemmas.List.Elements.{All-append, All-cons, All-nil}
 use Rattle.jet_worker.specs.Calls.{ReadsOrWrites}
 use Rattle.jet_worker.specs.Feeding.{Appends, TakesPiece}
-use Rattle.jet_worker.proofs.CallLemmas.{cancel, none_reads, none_writes, one_piece, split_last}
+use Rattle.jet_worker.proofs.CallLaws.{cancel, none_reads, none_writes, one_piece, split_last}
 use Rattle.jet_cli.specs.inner.Progress.{HasRun}
 use Rattle.jet_cli.specs.Pacing.{IsReady, base_late_of}
 use Rattle.jet_cli.specs.Words.{WindowCommand}

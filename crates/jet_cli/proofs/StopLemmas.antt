@@ -21,9 +21,8 @@ use Rattle.jet_worker.specs.Stopping.{IsCallIn, IsNoBadLine, LastOf}
 use Rattle.jet_worker.specs.declared.stop.Call.{Call}
 use Rattle.jet_worker.specs.declared.stop.Call.TheVariants.{Open}
 use Rattle.jet_worker.specs.declared.stop.Spot.TheVariants.{Part}
-use Rattle.jet_worker.proofs.CallLemmas.{none_last}
-use Rattle.jet_worker.proofs.OrderLemmas.{none_in}
-use Rattle.jet_file.proofs.GoesLemmas.{goes_same, goes_weaker}
+use Rattle.jet_worker.proofs.CallLaws.{none_in, none_last}
+use Rattle.jet_file.proofs.GoesLaws.{goes_same, goes_weaker}
 use Rattle.jet_cli.proofs.OrderLemmas.{named_after, opening_named}
 use Rattle.jet_cli.proofs.ReadPlaces.{last_none, ready_more, ready_opened, ready_unopened, wrote_none, wrote_quiet}
 use Rattle.std.proofs.lemmas.List.Elements.{All-append, All-weaker}

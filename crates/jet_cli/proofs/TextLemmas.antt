@@ -12,10 +12,9 @@ use Rattle.jet_worker.specs.declared.stop.Call.TheVariants as call
 use Rattle.jet_worker.specs.declared.stop.Spot.{Spot}
 use Rattle.jet_worker.specs.declared.stop.Stop.{Stop}
 use Rattle.jet_worker.specs.declared.stop.Stop.TheVariants.{NoMemory}
-use Rattle.jet_worker.proofs.CallLemmas.{one_piece, pieces_more}
-use Rattle.jet_worker.proofs.FeedLemmas.{read_last}
+use Rattle.jet_worker.proofs.CallLaws.{one_piece, pieces_more, read_last}
 use Rattle.jet_cli.specs.inner.TextReading.{ReadsFront, StopsReading, TakesText}
-use Rattle.jet_file.proofs.GoesLemmas.{goes_same, goes_then, goes_weaker}
+use Rattle.jet_file.proofs.GoesLaws.{goes_same, goes_then, goes_weaker}
 use Rattle.jet_file.proofs.ReadLemmas.{read_end, read_more}
 
 -- so much of the text was read, and no call has failed

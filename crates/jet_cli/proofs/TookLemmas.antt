@@ -17,7 +17,7 @@ use Rattle.jet_cli.specs.Counting.{kept_among, mark_after, Counts}
 use Rattle.jet_cli.specs.inner.Took.{mark_in, is_below, late_text_of, ClosesOn}
 use Rattle.jet_cli.specs.Words.{WindowCommand}
 use Rattle.jet_cli.proofs.KeptLemmas.{kept_more}
-use Rattle.jet_worker.proofs.SourceLemmas.{AreBefore, behind_at}
+use Rattle.jet_worker.proofs.BehindLaws.{AreBefore, behind_at}
 
 pub mark_is : (lag grain : ℤ) (times : List ℤ) (m : MarkerValue) → m.lag ≡ lag → m.grain ≡ grain → HasSeen m times → mark_in m ≡ mark_of lag grain times
 mark_is lag grain times m l g h = ap (λ (x : ℤ). mark_at x m.grain m.greatest) l ∙ ap (λ (x : ℤ). mark_at lag x m.greatest) g ∙ ap (mark_at lag grain) h

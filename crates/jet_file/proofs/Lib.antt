@@ -1,8 +1,8 @@
 pub mod ContentLemmas
 pub mod Examples
-pub mod GoesLemmas
+pub mod GoesLaws
 pub mod LineEndLemmas
-pub mod PaceLemmas
+pub mod PaceLaws
 pub mod ReadLemmas
 pub mod TextLemmas
 pub mod WriteLemmas

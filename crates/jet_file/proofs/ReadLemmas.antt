@@ -5,7 +5,7 @@ use Rattle.std.proofs.lemmas.List.{drop-drop, map-append}
 use Rattle.std.proofs.lemmas.List.Sums.{fold-append}
 use Rattle.jet_file.specs.Outside.{Told, Place, CallMade, Read, WhereTold, OpensFile, ReadsFile, rest_of, rest_from}
 use Rattle.jet_file.specs.Reading.{HasRead, HasReadAll}
-use Rattle.jet_file.proofs.GoesLemmas.{goes_then, goes_same}
+use Rattle.jet_file.proofs.GoesLaws.{goes_then, goes_same}
 
 rest_later : (o : Option (List ℕ)) (taken n : ℕ) → rest_from o (taken + n) ≡ drop n (rest_from o taken)
 rest_later None taken n = sym (drop-nil n)

@@ -17,7 +17,7 @@ use Rattle.jet_worker.specs.Stopping.{IsNoBadLine, OpenOutcome, Outcome}
 use Rattle.jet_worker.specs.declared.stop.Stop.{Stop}
 use Rattle.jet_worker.specs.declared.stop.Stop.TheVariants.{NoMemory}
 use Rattle.jet_worker.proofs.DoneLemmas.{HasDone, all_done, apart_in, none_done, one_done}
-use Rattle.jet_file.proofs.GoesLemmas.{goes_same, goes_then, goes_weaker}
+use Rattle.jet_file.proofs.GoesLaws.{goes_same, goes_then, goes_weaker}
 use Rattle.jet_worker.proofs.OpenLemmas.{caused, get_is, pair_at}
 use Rattle.jet_worker.proofs.StopLemmas.{IsAt, file_stops, nothing_done, opening_stops}
 

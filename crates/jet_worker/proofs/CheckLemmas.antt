@@ -20,7 +20,7 @@ use Rattle.jet_worker.specs.inner.Tallying.{Tallied}
 use Rattle.jet_worker.specs.declared.stop.Stop.{Stop}
 use Rattle.jet_worker.specs.declared.stop.Stop.TheVariants.{BadLine, Outside, NoMemory}
 use Rattle.jet_worker.specs.declared.tally.Tally.{Tally}
-use Rattle.jet_file.proofs.GoesLemmas.{goes_then, goes_weaker}
+use Rattle.jet_file.proofs.GoesLaws.{goes_then, goes_weaker}
 use Rattle.jet_worker.proofs.TallyLemmas.{none_is}
 
 -- the reading stopped, and nothing was written

@@ -16,8 +16,9 @@ use Rattle.jet_worker.specs.declared.stop.Call.TheVariants as call
 use Rattle.jet_worker.specs.declared.stop.Spot.{Spot}
 use Rattle.jet_worker.specs.declared.stop.Stop.{Stop}
 use Rattle.jet_worker.specs.declared.stop.Stop.TheVariants.{BadLine, Outside, NoMemory}
-use Rattle.jet_file.proofs.GoesLemmas.{goes_same, goes_then, goes_weaker}
+use Rattle.jet_file.proofs.GoesLaws.{goes_same, goes_then, goes_weaker}
 use Rattle.jet_file.proofs.ReadLemmas.{rest_next}
+use Rattle.jet_worker.proofs.CallLaws.{read_last, write_last}
 
 -- ---- openings and reads
 
@@ -86,12 +87,6 @@ pub goes_piece : (file : ℕ) (buffer : List ℕ) (n : ℕ) (before after : Line
 goes_piece file buffer n before after old now more fits most live is =
     goes_weaker (ReadsFile file buffer n) (TakesPiece file before after) (λ a b r. takes_piece file buffer n before after a b more fits most live is r) old now
 
--- the call that failed is a read of the file
-pub read_last : (spot : Spot) (file : ℕ) (stop : Stop) (last : List CallMade) → LastOf call.Read spot (Reading file) stop last → LastIs (IsCallIn spot file) stop last
-read_last spot file (BadLine part line why) last h = absurd h
-read_last spot file (Outside failed at) last h = (Reading file, h.2, subst (λ (k : Call). IsCallIn spot file k at (Reading file)) (sym h.0) (h.1, refl))
-read_last spot file NoMemory last h = h
-
 -- ---- writes
 
 -- a write that did not do its work stops the run
@@ -142,17 +137,6 @@ appends rows notes a b c h k = record {
 
 pub goes_appends : (rows notes : List ℕ) (old now next : Option Told) → WhereTold (HasWritten out.Notes notes []) old now → WhereTold (HasWritten out.Rows rows []) now next → WhereTold (Appends rows notes) old next
 goes_appends rows notes old now next = goes_then (HasWritten out.Notes notes []) (HasWritten out.Rows rows []) (Appends rows notes) (appends rows notes) old now next
-
--- the call that failed is a write
-pub write_last : (to : Out) (stop : Stop) (last : List CallMade) → LastOf call.Write (spot_of to) (Writing to) stop last → LastIs IsWriting stop last
-write_last to (BadLine part line why) last h = absurd h
-write_last to (Outside failed at) last h =
-    (Writing to, h.2, subst (λ (k : Call). IsWriting k at (Writing to)) (sym h.0) (subst (λ (s : Spot). IsWriting call.Write s (Writing to)) (sym h.1) (is to)))
-  where
-    is : (to : Out) → IsWriting call.Write (spot_of to) (Writing to)
-    is out.Rows = tt
-    is out.Notes = tt
-write_last to NoMemory last h = h
 
 -- the late lines were not all written
 pub goes_notes_stop : (rows notes : List ℕ) (stop : Stop) (old now : Option Told) → WhereTold (WritesText {T = Unit {0}} out.Notes notes (Err stop)) old now → WhereTold (Flushes {T = Unit {0}} rows notes (Err stop)) old now

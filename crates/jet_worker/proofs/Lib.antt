@@ -1,10 +1,12 @@
 pub mod AllLemmas
-pub mod CallLemmas
+pub mod BehindLaws
+pub mod CallLaws
 pub mod CheckLemmas
 pub mod CountLemmas
 pub mod DoneLemmas
 pub mod FeedLemmas
 pub mod FilesLemmas
+pub mod LeftLaws
 pub mod LoopLemmas
 pub mod OpenLemmas
 pub mod OrderLemmas

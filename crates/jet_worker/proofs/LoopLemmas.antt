@@ -30,9 +30,8 @@ use Rattle.jet_worker.specs.declared.stop.Spot.TheVariants.{Part}
 use Rattle.jet_worker.specs.declared.stop.Stop.{Stop}
 use Rattle.jet_worker.specs.declared.stop.Stop.TheVariants.{BadLine, Outside, NoMemory}
 use Rattle.jet_worker.specs.declared.tally.Tally.{Tally}
-use Rattle.jet_file.proofs.GoesLemmas.{goes_same, goes_then, goes_weaker}
-use Rattle.jet_worker.proofs.CallLemmas.{cancel, one_piece, pieces_more, split_last}
-use Rattle.jet_worker.proofs.FeedLemmas.{read_last}
+use Rattle.jet_file.proofs.GoesLaws.{goes_same, goes_then, goes_weaker}
+use Rattle.jet_worker.proofs.CallLaws.{cancel, one_piece, pieces_more, read_last, split_last}
 use Rattle.jet_worker.proofs.TallyLemmas.{bad_is, long_fault, many_fault, none_is}
 
 -- what the loop over the lines of a file keeps
@@ -173,43 +172,6 @@ progress_piece laws c p at start now next lines lines1 lines' tally h more puts 
 pub number_stays : (lines lines1 lines' : LinesValue) → NextIs lines cut.More lines1 → PutsPiece lines1 lines' → lines'.number ≡ lines.number
 number_stays lines lines1 lines' more (inl (piece, some, small, is)) = ap (λ (v : LinesValue). v.number) is ∙ ap (λ (v : LinesValue). v.number) more.3
 number_stays lines lines1 lines' more (inr is) = ap (λ (v : LinesValue). v.number) is ∙ ap (λ (v : LinesValue). v.number) more.3
-
--- ---- the measure
-
--- a carriage return at the end is one byte
-strip_len : (line : List ℕ) → length line ≤ length (strip_carriage_return line) + 1
-strip_len line = strip_if (nat_eq (get_or line (length line - 1) 0) 13)
-  where
-    strip_if : (b : Bool) → length line ≤ length (cond b (take (length line - 1) line) line) + 1
-    strip_if true = let short = length-take-le (length line - 1) line (omega arith) in omega (arith, short)
-    strip_if false = omega arith
-
-abbrev flag : Bool → ℕ
-flag b = cond b 0 1
-
-abbrev pub left : LinesValue → ℕ
-left v = (v.most - v.number) * 5002 + (5000 - length v.rest) + cond v.ended 0 1
-
-step_piece : (lines lines' : LinesValue) → lines.ended ≡ false → length lines.rest ≤ 513 → PutsPiece lines lines' → left lines' < left lines
-step_piece lines lines' live short (inl (piece, some, small, is)) =
-    let rest : length lines'.rest ≡ length lines.rest + length piece = ap (λ (v : LinesValue). length v.rest) is ∙ length-append lines.rest piece in
-    let ended : flag lines'.ended ≡ 1 = ap flag (ap (λ (v : LinesValue). v.ended) is ∙ live) in
-    let old : flag lines.ended ≡ 1 = ap flag live in
-    let whole : (lines'.most - lines'.number) * 5002 ≡ (lines.most - lines.number) * 5002 = ap (λ (v : LinesValue). (v.most - v.number) * 5002) is in
-    omega (arith, rest, whole, ended, old, short, some, small)
-step_piece lines lines' live short (inr is) =
-    let rest : length lines'.rest ≡ length lines.rest = ap (λ (v : LinesValue). length v.rest) is in
-    let ended : flag lines'.ended ≡ 0 = ap flag (ap (λ (v : LinesValue). v.ended) is) in
-    let old : flag lines.ended ≡ 1 = ap flag live in
-    let whole : (lines'.most - lines'.number) * 5002 ≡ (lines.most - lines.number) * 5002 = ap (λ (v : LinesValue). (v.most - v.number) * 5002) is in
-    omega (arith, rest, whole, ended, old)
-
-pub less_left : (lines lines1 lines' : LinesValue) → NextIs lines cut.More lines1 → PutsPiece lines1 lines' → left lines' < left lines
-less_left lines lines1 lines' more puts =
-    let same : lines1 ≡ lines = more.3 in
-    let short : length lines.rest ≤ 513 = omega (arith, strip_len lines.rest, more.1.1) in
-    subst (λ (v : LinesValue). left lines' < left v) same
-    (step_piece lines1 lines' (ap (λ (v : LinesValue). v.ended) same ∙ more.0) (subst (λ (v : LinesValue). length v.rest ≤ 513) (sym same) short) puts)
 
 -- ---- stops
 

@@ -18,7 +18,7 @@ use Rattle.jet_worker.specs.declared.stop.Call.TheVariants.{Open}
 use Rattle.jet_worker.specs.declared.stop.Spot.TheVariants.{Part}
 use Rattle.jet_worker.specs.declared.stop.Stop.{Stop}
 use Rattle.jet_worker.specs.declared.stop.Stop.TheVariants.{BadLine, Outside, NoMemory}
-use Rattle.jet_file.proofs.GoesLemmas.{goes_same, goes_then, goes_weaker}
+use Rattle.jet_file.proofs.GoesLaws.{goes_same, goes_then, goes_weaker}
 use Rattle.jet_worker.proofs.OrderLemmas.{length_front}
 
 -- what the loop over the files keeps: the first n of them were opened

@@ -19,7 +19,7 @@ use Rattle.jet_worker.specs.declared.stop.Spot.{Spot}
 use Rattle.jet_worker.specs.declared.stop.Spot.TheVariants.{Job, Part, Rows, Notes}
 use Rattle.jet_worker.specs.declared.stop.Stop.{Stop}
 use Rattle.jet_worker.specs.declared.stop.Stop.TheVariants.{BadLine, Outside, NoMemory}
-use Rattle.jet_worker.proofs.CallLemmas.{HasPieces, ends_last, none_turns, opened_by_openings, opens_then}
+use Rattle.jet_worker.proofs.CallLaws.{HasPieces, ends_last, none_turns, opened_by_openings, opens_none, opens_then}
 
 -- ---- names
 
@@ -76,10 +76,6 @@ at_seam (suc k) (x ∷ done) later o is = at_seam k done later o (omega (arith, 
 
 -- ---- while files are opened
 
-pub opens_none : (names : List (List ℕ)) → OpensInOrder names []
-opens_none [] = All-nil ReadsOrWrites
-opens_none (name ∷ names) = tt
-
 opens_next : (files : List DataFile) (n : ℕ) (tried : Tried) → IsSomeAnd (slice_get files n) (λ file. tried ≡ Opening (file_name file)) → OpensInOrder (map file_name (drop n files)) (Missed tried ∷ [])
 opens_next [] zero tried h = absurd h
 opens_next [] (suc n) tried h = absurd h
@@ -123,10 +119,6 @@ opening_named c all call spot tried h =
     named None count is = absurd is
     named (Some file) count is = subst (λ (t : Tried). IsCallOf part_place (map opening_call (map opening_of all)) Open (Part (length all)) t) (sym is) count
 
--- no call was made
-unfoldable pub no_calls : (names : List (List ℕ)) → ReadsInOrder names []
-no_calls names = record { opens = opens_none names; opened = []; turns = []; waiting = []; last = []; calls_are = refl; order = refl; end = inl refl }
-
 -- ---- when all are open
 
 -- all files were opened, and the first had their turns
@@ -149,34 +141,3 @@ turns_order c all turns waiting last pairs order pieces none end =
       order = order;
       end = end;
     }
-
--- the call that failed is one of an opened file's turn, whose opening has this place
-pub call_named : (place_of : Spot → Option ℕ) (before : List CallMade) (mine : Spot) (k at : ℕ) (call : Call) (spot : Spot) (tried : Tried) → place_of mine ≡ Some k → slice_get (opened_by before) k ≡ Some at
-    → IsCallIn mine at call spot tried → IsCallOf place_of before call spot tried
-call_named place_of before mine k at Open spot tried place is h = absurd h
-call_named place_of before mine k at Read spot (Opening name) place is h = absurd h
-call_named place_of before mine k at Read spot (Reading file) place is h =
-    subst (λ (s : Spot). IsSomeAnd (place_of s) (λ j. slice_get (opened_by before) j ≡ Some file)) (sym h.0)
-    (subst (λ (o : Option ℕ). IsSomeAnd o (λ j. slice_get (opened_by before) j ≡ Some file)) (sym place) (is ∙ ap Some (sym h.1)))
-call_named place_of before mine k at Read spot (Writing to) place is h = absurd h
-call_named place_of before mine k at Write Job tried place is h = absurd h
-call_named place_of before mine k at Write (Part p) tried place is h = absurd h
-call_named place_of before mine k at Write Rows (Opening name) place is h = absurd h
-call_named place_of before mine k at Write Rows (Reading file) place is h = absurd h
-call_named place_of before mine k at Write Rows (Writing out.Rows) place is h = tt
-call_named place_of before mine k at Write Rows (Writing out.Notes) place is h = absurd h
-call_named place_of before mine k at Write Notes (Opening name) place is h = absurd h
-call_named place_of before mine k at Write Notes (Reading file) place is h = absurd h
-call_named place_of before mine k at Write Notes (Writing out.Rows) place is h = absurd h
-call_named place_of before mine k at Write Notes (Writing out.Notes) place is h = tt
-
--- such a call opens nothing
-pub none_in : (mine : Spot) (at : ℕ) (call : Call) (spot : Spot) (tried : Tried) → IsCallIn mine at call spot tried → ReadsOrWrites (Missed tried)
-none_in mine at Open spot (Opening name) h = absurd h
-none_in mine at Read spot (Opening name) h = absurd h
-none_in mine at Write Job (Opening name) h = absurd h
-none_in mine at Write (Part p) (Opening name) h = absurd h
-none_in mine at Write Rows (Opening name) h = absurd h
-none_in mine at Write Notes (Opening name) h = absurd h
-none_in mine at call spot (Reading file) h = tt
-none_in mine at call spot (Writing to) h = tt

@@ -20,6 +20,7 @@ use Rattle.jet_worker.specs.inner.LineLaws.{EventLaws}
 use Rattle.jet_worker.specs.inner.Tallying.{CountsEntry, CountsEvent, RefusesSourceLine, TakesSourceLine, is_below}
 use Rattle.jet_worker.specs.declared.source_tally.SourceTally.{SourceTally}
 use Rattle.jet_worker.proofs.CountLemmas.{count_first, count_last}
+use Rattle.jet_worker.proofs.BehindLaws.{AreBefore, behind_at, behind_more, le}
 
 -- ---- what a line holds
 
@@ -33,17 +34,6 @@ entry_refuses n line t (refused.Fault why) h = ap (λ (r : Result Entry LineFaul
 
 -- ---- events that are behind
 
--- the events stand on lines before this one
-abbrev pub AreBefore : ℕ → List EventValue → Type 0
-AreBefore line events = All (λ e. e.line < line) events
-
--- a filter that keeps all
-filter_all : {X : Type 0} (p : X → Bool) (xs : List X) → All (λ x. p x ≡ true) xs → filter p xs ≡ xs
-filter_all p [] h = refl
-filter_all {X} p (x ∷ xs) h =
-    ap (λ (b : Bool). cond b (x ∷ filter p xs) (filter p xs)) (All-head (λ (y : X). p y ≡ true) x xs h)
-    ∙ ap (λ (ys : List X). x ∷ ys) (filter_all p xs (All-tail (λ (y : X). p y ≡ true) x xs h))
-
 count_same : {X : Type 0} (p q : X → Bool) (xs : List X) → All (λ x. p x ≡ q x) xs → count_by p xs ≡ count_by q xs
 count_same p q [] h = refl
 count_same {X} p q (x ∷ xs) h =
@@ -51,39 +41,6 @@ count_same {X} p q (x ∷ xs) h =
     ∙ ap (λ (b : Bool). cond b 1 0 + count_by p xs) (All-head (λ (y : X). p y ≡ q y) x xs h)
     ∙ ap (λ (n : ℕ). cond (q x) 1 0 + n) (count_same p q xs (All-tail (λ (y : X). p y ≡ q y) x xs h))
     ∙ sym (count_first q x xs)
-
-lt_true : (a b : ℕ) → a < b → nat_lt a b ≡ true
-lt_true a b h = grind (arith, nat_tests)
-
-lt_false : (a b : ℕ) → b ≤ a → nat_lt a b ≡ false
-lt_false a b h = grind (arith, nat_tests)
-
--- the times before an event that stands after all of them
-times_before_all : (line : ℕ) (events : List EventValue) → AreBefore line events → times_before line events ≡ map (λ e. e.ts) events
-times_before_all line events h =
-    ap (λ (es : List EventValue). map (λ (e : EventValue). e.ts) es)
-    (filter_all (λ (e : EventValue). nat_lt e.line line) events (λ k d lt. lt_true _ line (h k d lt)))
-
--- a later event is not before
-times_before_more : (line : ℕ) (events : List EventValue) (e : EventValue) → line ≤ e.line → times_before line (events ++ e ∷ []) ≡ times_before line events
-times_before_more line events e h =
-    ap (λ (es : List EventValue). map (λ (x : EventValue). x.ts) es)
-    (filter-append (λ (x : EventValue). nat_lt x.line line) events (e ∷ [])
-    ∙ ap (λ (b : Bool). filter (λ (x : EventValue). nat_lt x.line line) events ++ cond b (e ∷ []) []) (lt_false e.line line h)
-    ∙ append-nil (filter (λ (x : EventValue). nat_lt x.line line) events))
-
-pub behind_more : (lag grain : ℤ) (events : List EventValue) (e x : EventValue) → x.line ≤ e.line → is_behind lag grain (events ++ e ∷ []) x ≡ is_behind lag grain events x
-behind_more lag grain events e x h =
-    ap (λ (times : List ℤ). option_map_or (λ (mark : ℤ). int_lt x.ts mark) (mark_of lag grain times) false) (times_before_more x.line events e h)
-
--- an event after all of these is behind where its time is below their watermark
-pub behind_at : (lag grain : ℤ) (events : List EventValue) (e : EventValue) → AreBefore e.line events
-    → is_behind lag grain events e ≡ is_below (mark_of lag grain (map (λ x. x.ts) events)) e.ts
-behind_at lag grain events e h =
-    ap (λ (times : List ℤ). option_map_or (λ (mark : ℤ). int_lt e.ts mark) (mark_of lag grain times) false) (times_before_all e.line events h)
-
-pub le : (a b : ℕ) → a < b → a ≤ b
-le a b h = omega arith
 
 -- how many are behind with one event more
 count_more : (lag grain : ℤ) (events : List EventValue) (e : EventValue) → AreBefore e.line events

@@ -21,9 +21,9 @@ use Rattle.jet_worker.specs.declared.stop.Spot.{Spot}
 use Rattle.jet_worker.specs.declared.stop.Spot.TheVariants.{Part}
 use Rattle.jet_worker.specs.declared.stop.Stop.{Stop}
 use Rattle.jet_worker.specs.declared.stop.Stop.TheVariants.{BadLine, Outside, NoMemory}
-use Rattle.jet_worker.proofs.CallLemmas.{HasPieces, ends_last, none_last, opened_by_both, turns_more}
+use Rattle.jet_worker.proofs.CallLaws.{HasPieces, call_named, ends_last, no_calls, none_in, none_last, opened_by_both, turns_more}
 use Rattle.jet_worker.proofs.DoneLemmas.{HasDone, TakesTurn, files_more, good_if, lines_more, rest_is}
-use Rattle.jet_worker.proofs.OrderLemmas.{at_seam, call_named, no_calls, none_in, opening_named, opening_order, turns_order}
+use Rattle.jet_worker.proofs.OrderLemmas.{at_seam, opening_named, opening_order, turns_order}
 
 -- the file stands behind these among all
 pub record IsAt (c : Checks) (done later : List Opened) (o : Opened) : Type 0 where

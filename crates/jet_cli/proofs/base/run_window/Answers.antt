@@ -4,7 +4,7 @@ use Rattle.std.proofs.lemmas.Int.{ints}
 use Rattle.jet_file.specs.Outside.{Told, AddsNumber}
 use Rattle.jet_cli.specs.Words.{WindowCommand}
 use Rattle.jet_cli.specs.WordsView.{window_in}
-use Rattle.jet_worker.proofs.LoopLemmas.{less_left}
+use Rattle.jet_worker.proofs.LeftLaws.{less_left}
 use Rattle.jet_cli.proofs.LoopLemmas.{took_line, took_piece, stops_at_cut, stops_at_line, stops_else, stops_read, stops_at_end, done_at_end, outcome_of, works_on}
 use Rattle.jet_cli.proofs.ProgressLemmas.{progress_starts}
 use Rattle.jet_cli.proofs.StopLemmas.{goes_unopened}

@@ -1,4 +1,4 @@
-use Rattle.jet_file.proofs.PaceLemmas.{taken_by-append, wrote_by-append}
+use Rattle.jet_file.proofs.PaceLaws.{taken_by-append, wrote_by-append}
 use Rattle.jet_file.proofs.laws.calls_add_up.Goals as goal
 
 pub returns-clause-taken : goal.returns-clause-taken

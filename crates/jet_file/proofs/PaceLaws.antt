@@ -1,4 +1,4 @@
--- How many bytes a run of calls took and wrote.
+-- Laws of lists of calls: how many bytes a list of calls took and wrote, and one behind it.
 use Rattle.std.proofs.Common.{◌≡◌, ℕ, ◌+◌, List, [], ◌∷◌, ◌++◌, arith}
 use Rattle.jet_file.specs.Outside.{CallMade, Opened, Read, Wrote, Missed}
 use Rattle.jet_file.specs.Pace.{taken_by, wrote_by}

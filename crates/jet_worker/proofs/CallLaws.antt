@@ -1,16 +1,19 @@
--- Openings and turns among the calls of a run.
-use Rattle.std.proofs.Common.{◌≡◌, ◌≤◌, ℕ, List, [], ◌∷◌, ◌++◌, map, All, refl, sym, ap, ◌∙◌, subst, inl, inr, append-nil}
-use Rattle.std.specs.Prelude.{◌⊎◌, flat_map}
+-- Laws of lists of calls, which follow of the definitions alone: openings and turns among the calls of a run, and which call
+-- failed. They are generic in what a failed call is.
+use Rattle.std.proofs.Common.{◌≡◌, ◌≤◌, ℕ, List, [], ◌∷◌, ◌++◌, map, All, Option, Some, refl, sym, ap, ◌∙◌, subst, inl, inr, append-nil}
+use Rattle.std.specs.Prelude.{◌⊎◌, IsSomeAnd, flat_map, slice_get}
 use Rattle.std.proofs.lemmas.Grind.{flat_map-append}
 use Rattle.std.proofs.lemmas.List.Elements.{All-append, All-cons, All-head, All-map, All-nil, All-tail}
-use Rattle.jet_file.specs.Outside.{CallMade, Opened, Read, Wrote, Missed, Tried}
+use Rattle.jet_file.specs.Outside.{CallMade, Opened, Read, Wrote, Missed, Tried, Opening, Reading, Writing}
 use Rattle.jet_file.specs.declared.outside.Out.{Out}
 use Rattle.jet_file.specs.declared.outside.Out.TheVariants as out
-use Rattle.jet_worker.specs.Calls.{ArePieces, IsEnd, OpensInOrder, ReadsOrWrites, Turn, most_piece, opened_by, opening_call, turn_calls}
-use Rattle.jet_worker.specs.Stopping.{IsCallIn, IsWriting, LastIs}
+use Rattle.jet_worker.specs.Calls.{ArePieces, IsCallOf, IsEnd, OpensInOrder, ReadsInOrder, ReadsOrWrites, Turn, most_piece, opened_by, opening_call, turn_calls}
+use Rattle.jet_worker.specs.Stopping.{IsCallIn, IsWriting, LastIs, LastOf}
+use Rattle.jet_worker.specs.inner.Stopped.{spot_of}
 use Rattle.jet_worker.specs.declared.stop.Call.{Call}
 use Rattle.jet_worker.specs.declared.stop.Call.TheVariants as call
 use Rattle.jet_worker.specs.declared.stop.Spot.{Spot}
+use Rattle.jet_worker.specs.declared.stop.Spot.TheVariants.{Job, Part, Rows, Notes}
 use Rattle.jet_worker.specs.declared.stop.Stop.{Stop}
 use Rattle.jet_worker.specs.declared.stop.Stop.TheVariants.{BadLine, Outside, NoMemory}
 
@@ -135,3 +138,62 @@ opens_then (o ∷ opened) names later h = (refl, opens_then opened names later h
 -- turns with one more
 pub turns_more : (turns : List Turn) (t : Turn) → flat_map turn_calls (turns ++ t ∷ []) ≡ flat_map turn_calls turns ++ turn_calls t
 turns_more turns t = flat_map-append turn_calls turns (t ∷ []) ∙ ap (λ (l : List CallMade). flat_map turn_calls turns ++ l) (append-nil (turn_calls t))
+
+-- no name is opened by no call
+pub opens_none : (names : List (List ℕ)) → OpensInOrder names []
+opens_none [] = All-nil ReadsOrWrites
+opens_none (name ∷ names) = tt
+
+-- no call was made
+unfoldable pub no_calls : (names : List (List ℕ)) → ReadsInOrder names []
+no_calls names = record { opens = opens_none names; opened = []; turns = []; waiting = []; last = []; calls_are = refl; order = refl; end = inl refl }
+
+-- ---- which call failed
+
+-- the call that failed is a read of the file
+pub read_last : (spot : Spot) (file : ℕ) (stop : Stop) (last : List CallMade) → LastOf call.Read spot (Reading file) stop last → LastIs (IsCallIn spot file) stop last
+read_last spot file (BadLine part line why) last h = absurd h
+read_last spot file (Outside failed at) last h = (Reading file, h.2, subst (λ (k : Call). IsCallIn spot file k at (Reading file)) (sym h.0) (h.1, refl))
+read_last spot file NoMemory last h = h
+
+-- the call that failed is a write
+pub write_last : (to : Out) (stop : Stop) (last : List CallMade) → LastOf call.Write (spot_of to) (Writing to) stop last → LastIs IsWriting stop last
+write_last to (BadLine part line why) last h = absurd h
+write_last to (Outside failed at) last h =
+    (Writing to, h.2, subst (λ (k : Call). IsWriting k at (Writing to)) (sym h.0) (subst (λ (s : Spot). IsWriting call.Write s (Writing to)) (sym h.1) (is to)))
+  where
+    is : (to : Out) → IsWriting call.Write (spot_of to) (Writing to)
+    is out.Rows = tt
+    is out.Notes = tt
+write_last to NoMemory last h = h
+
+-- the call that failed is one of an opened file's turn, whose opening has this place
+pub call_named : (place_of : Spot → Option ℕ) (before : List CallMade) (mine : Spot) (k at : ℕ) (call : Call) (spot : Spot) (tried : Tried) → place_of mine ≡ Some k → slice_get (opened_by before) k ≡ Some at
+    → IsCallIn mine at call spot tried → IsCallOf place_of before call spot tried
+call_named place_of before mine k at call.Open spot tried place is h = absurd h
+call_named place_of before mine k at call.Read spot (Opening name) place is h = absurd h
+call_named place_of before mine k at call.Read spot (Reading file) place is h =
+    subst (λ (s : Spot). IsSomeAnd (place_of s) (λ j. slice_get (opened_by before) j ≡ Some file)) (sym h.0)
+    (subst (λ (o : Option ℕ). IsSomeAnd o (λ j. slice_get (opened_by before) j ≡ Some file)) (sym place) (is ∙ ap Some (sym h.1)))
+call_named place_of before mine k at call.Read spot (Writing to) place is h = absurd h
+call_named place_of before mine k at call.Write Job tried place is h = absurd h
+call_named place_of before mine k at call.Write (Part p) tried place is h = absurd h
+call_named place_of before mine k at call.Write Rows (Opening name) place is h = absurd h
+call_named place_of before mine k at call.Write Rows (Reading file) place is h = absurd h
+call_named place_of before mine k at call.Write Rows (Writing out.Rows) place is h = tt
+call_named place_of before mine k at call.Write Rows (Writing out.Notes) place is h = absurd h
+call_named place_of before mine k at call.Write Notes (Opening name) place is h = absurd h
+call_named place_of before mine k at call.Write Notes (Reading file) place is h = absurd h
+call_named place_of before mine k at call.Write Notes (Writing out.Rows) place is h = absurd h
+call_named place_of before mine k at call.Write Notes (Writing out.Notes) place is h = tt
+
+-- such a call opens nothing
+pub none_in : (mine : Spot) (at : ℕ) (call : Call) (spot : Spot) (tried : Tried) → IsCallIn mine at call spot tried → ReadsOrWrites (Missed tried)
+none_in mine at call.Open spot (Opening name) h = absurd h
+none_in mine at call.Read spot (Opening name) h = absurd h
+none_in mine at call.Write Job (Opening name) h = absurd h
+none_in mine at call.Write (Part p) (Opening name) h = absurd h
+none_in mine at call.Write Rows (Opening name) h = absurd h
+none_in mine at call.Write Notes (Opening name) h = absurd h
+none_in mine at call spot (Reading file) h = tt
+none_in mine at call spot (Writing to) h = tt

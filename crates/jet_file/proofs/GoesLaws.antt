@@ -1,5 +1,5 @@
--- Steps of an outside that tells all, one after another. Each loop over an outside keeps a fact `WhereTold R old now`, and
--- these lemmas carry it over one call more.
+-- Laws, generic in the properties R, S and T of steps: steps of an outside that tells all, one after another. Each loop over an
+-- outside keeps a fact `WhereTold R old now`, and these laws carry it over one call more.
 use Rattle.std.specs.Prelude.{Option, Some, None}
 use Rattle.jet_file.specs.Outside.{Told, WhereTold}
 
