@@ -1,0 +1,5 @@
+use Rattle.jet_ring.specs.Ring.{IsPair}
+use Rattle.bench_links.proofs.plain.Given as goal
+
+abbrev pub invariant-loop : goal.invariant-loop
+invariant-loop l = IsPair l.tx l.rx
