@@ -4,3 +4,4 @@ pub mod Places
 pub mod Spots
 pub mod Placing
 pub mod Overall
+pub mod Listing

@@ -9,6 +9,7 @@
 mod beside;
 mod end;
 mod gate;
+mod laws;
 mod spot;
 mod turns;
 mod worker;
@@ -16,6 +17,7 @@ mod worker;
 pub use beside::epoch;
 pub use end::EpochEnd;
 pub use gate::{FreeGate, Gate};
+pub use laws::one_list_keeps_as_workers_do;
 pub use spot::{Spot, place, trade, trade_both};
 pub use turns::Turns;
 pub use worker::Worker;

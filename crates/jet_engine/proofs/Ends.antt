@@ -25,7 +25,7 @@ use Rattle.jet_engine.proofs.Placewise.{some_is, set_there, set_elsewhere, place
 use Rattle.jet_engine.proofs.Looking.{looked_same, looked_trans, giver_looked, taker_looked}
 
 -- two lists of which a function gives the same have in each place two of which it does
-same_there : {X Y : Type 0} (f : X → Y) (xs ys : List X) (k : ℕ) (x : X) → map f ys ≡ map f xs → slice_get xs k ≡ Some x → (y : X) × (slice_get ys k ≡ Some y) × (f y ≡ f x)
+pub same_there : {X Y : Type 0} (f : X → Y) (xs ys : List X) (k : ℕ) (x : X) → map f ys ≡ map f xs → slice_get xs k ≡ Some x → (y : X) × (slice_get ys k ≡ Some y) × (f y ≡ f x)
 same_there {X} {Y} f xs ys k x same at =
     let within : k < length xs = slice_get_within xs k x at in
     let inside : k < length ys = let n = ap length same in let m = length-map ys f in let l = length-map xs f in let w = within in omega (arith, n, m, l, w) in

@@ -5,3 +5,4 @@ pub mod Sweeping
 pub mod Linking
 pub mod Feeding
 pub mod Attending
+pub mod Lasting

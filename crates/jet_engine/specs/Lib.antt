@@ -2,3 +2,4 @@ pub mod Ends
 pub mod Looking
 pub mod Links
 pub mod Wiring
+pub mod Lasting

@@ -8,6 +8,7 @@
 mod drains;
 mod feeds;
 mod junctions;
+mod laws;
 mod links;
 mod places;
 mod sweep;
@@ -16,6 +17,7 @@ mod wiring;
 pub use drains::meet_drain;
 pub use feeds::meet_feed;
 pub use junctions::{Spares, meet_junction, meet_junctions};
+pub use laws::turns_keep_the_wiring;
 pub use links::meet_link_at;
 pub use places::{DestAt, Junction, LinkAt, QueueAt};
 pub use sweep::meet_all;
