@@ -3,6 +3,7 @@ pub mod AnyMeeting
 pub mod AnyRows
 pub mod AnyRests
 pub mod Begun
+pub mod Carrying
 pub mod Chaining
 pub mod Coming
 pub mod Crossing

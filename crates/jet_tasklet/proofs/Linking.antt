@@ -1,21 +1,23 @@
 -- Turns in a row of an end of a link, and what it keeps.
-use Rattle.std.proofs.Common.{◌≡◌, ◌⊎◌, List, [], ◌++◌, map, length, refl, sym, ◌∙◌, ap, subst, append_assoc, inl, inr, arith}
+use Rattle.std.proofs.Common.{◌≡◌, ℕ, ◌⊎◌, Bool, true, false, List, [], ◌∷◌, ◌++◌, map, length, refl, sym, ◌∙◌, ap, subst, append_assoc, inl, inr, arith}
 use Rattle.std.proofs.lemmas.List.{map-append}
 use Rattle.jet_ring.proofs.Lists.{prefix_trans}
 use Rattle.jet_items.specs.declared.item.Item.{Item}
+use Rattle.jet_items.specs.declared.item.Item.TheVariants as item
 use Rattle.jet_conveyor.specs.Conveyor as conveyor
 use Rattle.jet_boxes.specs.declared.port.Port.TheVariants.{Stream}
-use Rattle.jet_wire.specs.Noting.{items_in}
-use Rattle.jet_wire.specs.Receiver.{ReceiverView, ReceiverKeeps, ReceiverIsLawful, ReceiverStays, Gives, IsPaced}
+use Rattle.jet_wire.specs.Passing.{Taken, passed}
+use Rattle.jet_wire.specs.Receiver.{ReceiverView, ReceiverKeeps, IsNext, ReceiverIsLawful, ReceiverStays, Gives, IsPaced}
 use Rattle.jet_wire.specs.ReceiverTurn.{RecvGoes, ReceiverTurned, moved_count, ReceiverIsStill, ReceiverIsStarved, ReceiverRests}
-use Rattle.jet_wire.specs.Sender.{SenderView, SenderKeeps, IsLawful, Stays, Goes}
+use Rattle.jet_wire.specs.Sender.{SenderView, SenderKeeps, IsLawful, Stays, Goes, queue_count}
 use Rattle.jet_wire.specs.SenderTurn.{EndGoes, SenderTurned, received_count, move_count, SenderIsStill, SenderRests}
 use Rattle.jet_link.specs.Views.{SendView, RecvView}
 use Rattle.jet_tasklet.specs.declared.arrival.Arrival.{Arrival}
 use Rattle.jet_tasklet.specs.Inputs.{InputView}
-use Rattle.jet_tasklet.specs.Links.{taken_at, unpacked, SendKeeps, ReceiveKeeps, Law, LinkIsLawful, LinkStays, LinkGoes, SendIsBlocked, SendIsStarved, ReceiveIsBlocked, SendsSoFar}
-use Rattle.jet_tasklet.specs.Outputs.{ready}
+use Rattle.jet_tasklet.specs.Links.{taken_at, unpacked, SendKeeps, ReceiveKeeps, Law, LinkIsLawful, LinkStays, LinkGoes, SendIsBlocked, SendIsStarved, ReceiveIsBlocked, taken_of, passed_on, SendsSoFar, GivesOn}
+use Rattle.jet_tasklet.specs.Outputs.{InGift, ready}
 use Rattle.jet_tasklet.specs.Turned.{InputGoes, OutputGoes}
+use Rattle.jet_tasklet.proofs.GenericLaws.{bool_cases}
 use Rattle.jet_tasklet.proofs.Lasting.{input_trans, output_trans}
 
 -- ---- whatever an end keeps
@@ -65,9 +67,22 @@ send_goes a b f = record {
       );
 }
 
+-- an arrival of a sender is the item that it took
+pub taken_back : (ts : List Taken) → map taken_of (map taken_at ts) ≡ ts
+taken_back [] = refl
+taken_back (t ∷ ts) = ap (λ (xs : List Taken). t ∷ xs) (taken_back ts)
+
+pub passed_is : (n : ℕ) (came : List Arrival) (ts : List Taken) → came ≡ map taken_at ts → passed n ts ≡ passed_on n came
+passed_is n came ts e = ap (λ (xs : List Taken). passed n xs) (sym (ap (λ (xs : List Arrival). map taken_of xs) e ∙ taken_back ts))
+
 -- what was sent, with the packet in work and the item in hand, is all that is passed on
 pub send_so_far : (v : SenderView) (came : List Arrival) (gave : List Item) → SendKeeps v came gave → SendsSoFar v came gave
-send_so_far v came gave k = record { taken = k.taken; came_is = k.came_is; held = k.keeps.sends.written ++ items_in v.hand; passes = sym (append_assoc gave k.keeps.sends.written (items_in v.hand)) ∙ k.keeps.sends.follows }
+send_so_far v came gave k = record {
+  sent = k.keeps.sends.packets;
+  written = k.keeps.sends.written;
+  work = k.keeps.sends.work;
+  passes = k.keeps.sends.follows ∙ passed_is (queue_count v) came k.taken k.came_is;
+}
 
 -- why it has nothing to do
 pub send_rests : (v : SenderView) → SenderRests v → SendIsBlocked v ⊎ SendIsStarved v
@@ -135,6 +150,34 @@ receive_goes a b f paced = record {
         },
       );
 }
+
+-- what is in hand at the router of a receiver is the next item
+abbrev NextGift : ReceiverView → List Item → Type 0
+NextGift v gave = (next : Item) × InGift gave next (ready v.router) × (v.router.busy ≡ true → IsNext v next)
+
+never : {b : Bool} {P : Type 0} → b ≡ false → b ≡ true → P
+never e f = absurd (cc)
+
+pub next_gift : (v : ReceiverView) (gave : List Item) → ReceiverKeeps v gave → NextGift v gave
+next_gift v gave k =
+    elim (bool_cases v.router.busy) [
+      | inl b ↦
+          let held = k.hand b in (
+            held.0,
+            record { deals = k.deals; dealt = k.dealt; items = k.items; hand = λ busy. held.2; whole = λ had. never refl had },
+            λ busy. held.1,
+          )
+      | inr f ↦ (
+        item.Done,
+        record { deals = k.deals; dealt = k.dealt; items = k.items; hand = λ busy. never f busy; whole = λ had. never refl had },
+        λ busy. never f busy,
+      )
+    ]
+
+pub receive_so_far : (v : ReceiverView) (came : List Arrival) (gave : List Item) → ReceiveKeeps v came gave → GivesOn v came gave
+receive_so_far v came gave k =
+    let held = next_gift v gave k.keeps in
+    record { came_is = k.came_is; next = held.0; gift = held.1; is_next = held.2; bytes = k.keeps.bytes; done = k.keeps.done }
 
 pub receive_rests : (v : ReceiverView) → ReceiverRests v → ReceiveIsBlocked v ⊎ ReceiverIsStarved v
 receive_rests v r = elim r [

@@ -14,7 +14,7 @@ use Rattle.jet_tasklet.specs.Inputs.{inputs_view, received_count}
 use Rattle.jet_tasklet.specs.Kinds.{OfKind, OfKinds, changed, inputs_of}
 use Rattle.jet_tasklet.specs.Keeps.{Keeps, IsLawful, Stays, Goes}
 use Rattle.jet_tasklet.specs.Lending.{with_input, with_output}
-use Rattle.jet_tasklet.specs.Links.{SendKeeps, ReceiveKeeps, LinkIsLawful, LinkStays, LinkGoes, SendIsBlocked, SendIsStarved, ReceiveIsBlocked}
+use Rattle.jet_tasklet.specs.Links.{SendKeeps, ReceiveKeeps, LinkIsLawful, LinkStays, LinkGoes, SendIsBlocked, SendIsStarved, ReceiveIsBlocked, CountsOnce}
 use Rattle.jet_tasklet.specs.Turned.{Turned}
 use Rattle.jet_tasklet.specs.Turning.{HasEnded, IsBlocked, IsStarved, Moves, IsStill}
 
@@ -58,6 +58,10 @@ AnyMoves t u = OfKinds (λ P k a b. Moves a b) (λ a b. move_count (sender_view 
 
 abbrev pub AnyIsStill : AnyTasklet → AnyTasklet → Type 0
 AnyIsStill t u = OfKinds (λ P k a b. IsStill a b) (λ a b. SenderIsStill (sender_view a) (sender_view b)) (λ a b. ReceiverIsStill (receiver_view a) (receiver_view b)) t u
+
+-- a turn of a receiver counts once
+abbrev pub AnyCountsOnce : AnyTasklet → AnyTasklet → Type 0
+AnyCountsOnce t u = OfKinds (λ P k a b. Unit {0}) (λ a b. Unit {0}) (λ a b. CountsOnce (receiver_view a) (receiver_view b)) t u
 
 -- t with the conveyor of the input n changed to w; `was` is the conveyor as it was
 abbrev pub any_with_input : AnyTasklet → ℕ → Conveyor → Conveyor → AnyTasklet

@@ -2,21 +2,25 @@
 use Rattle.std.specs.Prelude.{ℕ, Bool, List, [], ◌++◌}
 use Rattle.jet_items.specs.declared.item.Item.{Item}
 use Rattle.jet_items.specs.Order.{Each, Sound, Closed as ClosedItems}
+use Rattle.jet_boxes.specs.declared.port.Port.TheVariants.{Stream}
 use Rattle.jet_boxes.specs.Entry.{CallEntry}
 use Rattle.jet_stages.specs.Stamp.{IsNoResult}
 use Rattle.jet_tasklet.specs.declared.arrival.Arrival.{Arrival}
 use Rattle.jet_window.specs.LateEvents.{FrameSound}
 use Rattle.jet_tasklet.specs.declared.any.AnyTasklet.{AnyTasklet}
 use Rattle.jet_tasklet.specs.declared.any.AnyTasklet.TheVariants as any
-use Rattle.jet_tasklet.specs.Inputs.{inputs_view}
+use Rattle.jet_tasklet.specs.Any.{AnyKeeps}
+use Rattle.jet_tasklet.specs.Inputs.{inputs_view, queue_count}
 use Rattle.jet_tasklet.specs.Keeps.{Keeps}
 use Rattle.jet_tasklet.specs.Kinds.{OfKind, OfProcessor, seen}
-use Rattle.jet_tasklet.specs.Links.{SendsSoFar, GivesOn}
+use Rattle.jet_tasklet.specs.Links.{passed_on, SendsSoFar, GivesOn}
+use Rattle.jet_tasklet.specs.Meeting.{HaveMetByLink}
 use Rattle.jet_tasklet.specs.Outputs.{outputs_view}
 use Rattle.jet_tasklet.specs.Over.{told_of, SoFar, Over}
 use Rattle.jet_tasklet.specs.Sending.{EachReceived, EachFront}
 use Rattle.jet_tasklet.specs.StampInOrder.{AreFromFiles}
 use Rattle.jet_tasklet.specs.Views.{ins}
+use Rattle.jet_wire.specs.Receiver.{receiver_view}
 use Rattle.jet_wire.specs.Sender.{sender_view}
 
 -- all that the processor is told of the items that came; an end of a link has none
@@ -32,14 +36,22 @@ AnyKeepsMarks t came gave = OfProcessor (λ P k u. Keeps k.marks k.marks_amid k.
 
 -- what the processor has given so far, by the law of its data; and by that of its marks. What an end of a link gave is what it passes on of the items that came, and what it still holds
 abbrev pub AnySoFar : AnyTasklet → List Arrival → List Item → Type 0
-AnySoFar t came gave = OfKind (λ P k u. SoFar (k.bag u.processor) (k.bag_amid u.processor) (inputs_view u.inputs.items) (told_of u came) (gave ++ u.outbox.items)) (λ s. SendsSoFar (sender_view s) came gave) (λ r. GivesOn came gave) t
+AnySoFar t came gave = OfKind (λ P k u. SoFar (k.bag u.processor) (k.bag_amid u.processor) (inputs_view u.inputs.items) (told_of u came) (gave ++ u.outbox.items)) (λ s. SendsSoFar (sender_view s) came gave) (λ r. GivesOn (receiver_view r) came gave) t
 
 abbrev pub AnyMarksSoFar : AnyTasklet → List Arrival → List Item → Type 0
-AnyMarksSoFar t came gave = OfKind (λ P k u. SoFar (k.marks u.processor) (k.marks_amid u.processor) (inputs_view u.inputs.items) (told_of u came) (gave ++ u.outbox.items)) (λ s. SendsSoFar (sender_view s) came gave) (λ r. GivesOn came gave) t
+AnyMarksSoFar t came gave = OfKind (λ P k u. SoFar (k.marks u.processor) (k.marks_amid u.processor) (inputs_view u.inputs.items) (told_of u came) (gave ++ u.outbox.items)) (λ s. SendsSoFar (sender_view s) came gave) (λ r. GivesOn (receiver_view r) came gave) t
 
 -- the tasklet is over and its processor gave these items, by both laws
 abbrev pub AnyOver : AnyTasklet → List Arrival → List Item → Type 0
 AnyOver t came given = OfProcessor (λ P k u. Over (k.bag u.processor) (inputs_view u.inputs.items) (outputs_view u.outputs.items) (told_of u came) given × k.marks u.processor (told_of u came) given) t
+
+-- it holds of what came to a sender, of what that sent and of what the receiver gave, wherever the two are the ends of one link that have met
+abbrev pub OverLink : AnyTasklet → AnyTasklet → (List Arrival → List Item → List Item → Type 0) → Type 0
+OverLink t u C = (came over : List Arrival) (sent given : List Item) → HaveMetByLink t u → AnyKeeps t came sent → AnyKeeps u over given → C came sent given
+
+-- all that a sender passes on of what came from its queues
+abbrev pub any_passed_on : AnyTasklet → List Arrival → List Item
+any_passed_on t came = passed_on (queue_count Stream (ins t)) came
 
 -- what the processor asks for holds of each front of what it is told
 abbrev pub AnySoundIf : (ℕ → ℕ → Bool) → AnyTasklet → List Arrival → Type 0

@@ -2,13 +2,18 @@
 use Rattle.std.specs.Prelude.{◌≡◌, ℕ, ◌⊎◌, true, All, List, ◌++◌, map, None}
 use Rattle.jet_items.specs.declared.item.Item.{Item}
 use Rattle.jet_boxes.specs.declared.port.Port.TheVariants.{Stream}
+use Rattle.jet_link.specs.Packets.{packed}
+use Rattle.jet_link.specs.Receiving.{IsGranted}
 use Rattle.jet_link.specs.Sending.{NoneToTake}
-use Rattle.jet_wire.specs.Passing.{Taken, passed}
-use Rattle.jet_wire.specs.Receiver.{ReceiverView, ReceiverKeeps, IsPaced}
-use Rattle.jet_wire.specs.ReceiverTurn.{ReceiverIsBlocked, ReceiverIsFull}
-use Rattle.jet_wire.specs.Sender.{SenderView, SenderKeeps, queue_count}
+use Rattle.jet_spell.specs.Spelling.{spellings}
+use Rattle.jet_wire.specs.Noting.{items_in}
+use Rattle.jet_wire.specs.Passing.{Taken, has_ended, passed}
+use Rattle.jet_wire.specs.Receiver.{ReceiverView, ReceiverKeeps, IsPaced, IsNext, bytes_left}
+use Rattle.jet_wire.specs.ReceiverTurn.{ReceiverIsBlocked, ReceiverIsFull, CountsTurn, Offers}
+use Rattle.jet_wire.specs.Sender.{SenderView, SenderKeeps, queue_count, work_bytes}
 use Rattle.jet_wire.specs.SenderTurn.{SenderIsBarred, SenderIsFull, SenderIsStarved}
 use Rattle.jet_tasklet.specs.declared.arrival.Arrival.{Arrival}
+use Rattle.jet_tasklet.specs.Outputs.{InGift, ready}
 
 -- an item that a sender took from a queue of its one input
 abbrev pub taken_at : Taken → Arrival
@@ -71,16 +76,35 @@ pub record SendIsAtRest (v : SenderView) : Type 0 where
 abbrev pub ReceiveIsAtRest : ReceiverView → Type 0
 ReceiveIsAtRest v = v.end.held ≡ None
 
--- what a sender sent and still holds is what is passed on of what came: data as it came, the marks of all queues together, and Done at their end
-pub record SendsSoFar (v : SenderView) (came : List Arrival) (gave : List Item) : Type 0 where
-  pub taken : List Taken
-  pub came_is : came ≡ map taken_at taken
-  pub held : List Item
-  pub passes : gave ++ held ≡ passed (queue_count v) taken
+-- an arrival as a sender takes it from a queue
+abbrev pub taken_of : Arrival → Taken
+taken_of a = record { queue = a.queue; item = a.item }
 
--- what a receiver gave is what came over its link
-abbrev pub GivesOn : List Arrival → List Item → Type 0
-GivesOn came gave = came ≡ map unpacked gave
+-- what is passed on of what came from n queues: data as it came, the marks of all queues together, and Done at their end
+abbrev pub passed_on : ℕ → List Arrival → List Item
+passed_on n came = passed n (map taken_of came)
+
+-- what a sender sent over its link, the items that stand in the packet in work, and the one in hand are what is passed on of what came
+pub record SendsSoFar (v : SenderView) (came : List Arrival) (gave : List Item) : Type 0 where
+  pub sent : packed v.end.packets.sent ≡ spellings gave
+  pub written : List Item
+  pub work : work_bytes v.end.work ≡ spellings written
+  pub passes : gave ++ written ++ items_in v.hand ≡ passed_on (queue_count v) came
+
+-- what a receiver gave is what came over its link, its router was given just these items whole, and the next one may be in hand there; its packets are spelled so up to the place reached
+pub record GivesOn (v : ReceiverView) (came : List Arrival) (gave : List Item) : Type 0 where
+  pub came_is : came ≡ map unpacked gave
+  pub next : Item
+  pub gift : InGift gave next (ready v.router)
+  pub is_next : v.router.busy ≡ true → IsNext v next
+  pub bytes : packed v.end.packets.received ≡ spellings gave ++ bytes_left v
+  pub done : v.ended ≡ has_ended gave
+
+-- a turn of a receiver counts once in its period, with the bytes that it processed; the grant lies between window and peak; and the offer stays, or is raised to the grant ahead of what was processed
+pub record CountsOnce (a b : ReceiverView) : Type 0 where
+  pub granted : IsGranted b.end
+  pub counted : CountsTurn a.end b.end
+  pub offers : Offers a.end b.end
 
 -- all but the queues of a sender is as it was
 pub record SameSend (a b : SenderView) : Type 0 where

@@ -44,7 +44,7 @@ impl AnyTasklet {
     ghost use Rattle.jet_router.specs.Router as routers;
     ghost use Rattle.jet_router.specs.declared.router.Router.{Router};
     ghost use Rattle.jet_tasklet.specs.declared.arrival.Arrival.{Arrival};
-    ghost use Rattle.jet_tasklet.specs.Any.{AnyKeeps, AnyIsLawful, AnyStays, AnyGoes, AnyTurned, AnyFew, AnyMayWant, AnyHasEnded, AnyIsBlocked, AnyIsStarved, AnyMoves, AnyIsStill, any_with_input, any_with_output};
+    ghost use Rattle.jet_tasklet.specs.Any.{AnyKeeps, AnyIsLawful, AnyStays, AnyGoes, AnyTurned, AnyFew, AnyMayWant, AnyHasEnded, AnyIsBlocked, AnyIsStarved, AnyMoves, AnyIsStill, AnyCountsOnce, any_with_input, any_with_output};
 
     /// A turn of the tasklet, as its kind has it.
     pub fn turn(&mut self) -> Result<Progress, NoMemory>
@@ -60,6 +60,7 @@ impl AnyTasklet {
         ensures same { result ≡ Ok progress.Idle → AnyStays self.old self.new }
         ensures still { result ≡ Ok progress.Idle → AnyIsStill self.old self.new }
         ensures idle { result ≡ Ok progress.Idle → AnyIsBlocked self.new ⊎ AnyIsStarved self.new }
+        ensures once { (result ≡ Ok progress.Done → ⊥) → AnyCountsOnce self.old self.new }
     {
         match self {
             AnyTasklet::Stamp(tasklet) => tasklet.turn(),

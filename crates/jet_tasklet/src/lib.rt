@@ -10,6 +10,7 @@
 
 mod any;
 mod any_ends;
+mod any_links;
 mod any_rests;
 mod arrival;
 mod call;

@@ -1,6 +1,6 @@
 use Rattle.std.proofs.Common.{sym, subst}
 use Rattle.jet_tasklet.proofs.AnyEnds.{GivesMarksSoFar, GivesSoFar}
-use Rattle.jet_tasklet.proofs.Linking.{send_so_far}
+use Rattle.jet_tasklet.proofs.Linking.{send_so_far, receive_so_far}
 use Rattle.jet_tasklet.proofs.any.AnyTasklet.law_gives_so_far.Goals as goal
 
 pub returns-in-Stamp-clause-bag : goal.returns-in-Stamp-clause-bag
@@ -52,7 +52,7 @@ pub returns-in-Send-clause-marks : goal.returns-in-Send-clause-marks
 returns-in-Send-clause-marks c = subst GivesMarksSoFar (sym c.in-Send.is) (λ came gave k. send_so_far _ came gave k)
 
 pub returns-in-Receive-clause-bag : goal.returns-in-Receive-clause-bag
-returns-in-Receive-clause-bag c = subst GivesSoFar (sym c.in-Receive.is) (λ came gave k. k.came_is)
+returns-in-Receive-clause-bag c = subst GivesSoFar (sym c.in-Receive.is) (λ came gave k. receive_so_far _ came gave k)
 
 pub returns-in-Receive-clause-marks : goal.returns-in-Receive-clause-marks
-returns-in-Receive-clause-marks c = subst GivesMarksSoFar (sym c.in-Receive.is) (λ came gave k. k.came_is)
+returns-in-Receive-clause-marks c = subst GivesMarksSoFar (sym c.in-Receive.is) (λ came gave k. receive_so_far _ came gave k)
