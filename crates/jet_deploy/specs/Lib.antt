@@ -1,3 +1,4 @@
 pub mod Ends
+pub mod Instances
 pub mod Ranges
 pub mod Windows

@@ -1,11 +1,17 @@
 //! The parts of a plan, made before anything runs.
+//!
+//! `inputs` and `outputs` make the conveyors and routers of a tasklet over the ends of rings that a harness has for it
+//! (`specs/Ends.antt`). `tasklet_of` makes the tasklet of an instance of a vertex over them, with the processor that the vertex
+//! asks for (`specs/Instances.antt`). The two vertices of a window are found by the edge between them (`specs/Windows.antt`).
 #![tactic(auto)]
 
 mod ends;
+mod instance;
 mod laws;
 mod processor;
 mod take;
 mod window;
 
 pub use ends::{inputs, outputs, router};
+pub use instance::tasklet_of;
 pub use laws::valid_vertices_keep_their_ranges;
