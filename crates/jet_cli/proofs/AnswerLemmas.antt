@@ -1,6 +1,5 @@
 -- What Done to `window` says of late lines, and what a bad line does.
-use Rattle.jet_laws.proofs.InTime.{none_is_behind}
-use Rattle.jet_laws.specs.InTime.{IsInTime}
+use Rattle.jet_laws.specs.InTime.{IsInTime, NoneIsBehind}
 use Rattle.std.proofs.Common.{◌≡◌, ℕ, List, [], ◌∷◌, ◌++◌, map, filter, Bool, true, false, cond, Option, Some, None, refl, ap, sym, ◌∙◌, subst, append-nil, All, pos, ◌≤ℤ◌}
 use Rattle.std.specs.Prelude.{IsSomeAnd, Any, ◌==◌}
 use Rattle.std.specs.List.Sorted.{IsPermutation}
@@ -23,7 +22,7 @@ use Rattle.jet_cli.specs.LineStops.{IsFirstBadLine}
 use Rattle.jet_cli.specs.Words.{WindowCommand}
 use Rattle.jet_cli.proofs.DoneLemmas.{one_of}
 
-all_front : {X : Type 0} (P : X → Type 0) (xs ys : List X) → All P (xs ++ ys) → All P xs
+pub all_front : {X : Type 0} (P : X → Type 0) (xs ys : List X) → All P (xs ++ ys) → All P xs
 all_front P [] ys h = All-nil P
 all_front P (x ∷ xs) ys h = All-cons P x xs (All-head P x (xs ++ ys) h) (all_front P xs ys (All-tail P x (xs ++ ys) h))
 
@@ -65,11 +64,11 @@ some_weaker None P Q f h = h
 some_weaker (Some x) P Q f h = f x h
 
 -- events in time leave no late line
-pub in_time_is : (c : WindowCommand) (old new : Told) → pos 1 ≤ℤ pos c.slide → IsQuiet c old new → IsQuietInTime c old new
-in_time_is c old new step =
+pub in_time_is : (law : NoneIsBehind) (c : WindowCommand) (old new : Told) → pos 1 ≤ℤ pos c.slide → IsQuiet c old new → IsQuietInTime c old new
+in_time_is law c old new step =
     some_weaker (old.content c.file) (λ content. All (λ e. base_behind c content e ≡ false) (base_events content) → new.written Notes ≡ old.written Notes)
     (λ content. IsInTime (pos c.lag) (base_events content) → new.written Notes ≡ old.written Notes)
-    (λ content quiet in_time. quiet (none_is_behind (pos c.lag) (pos c.slide) (base_events content) step in_time))
+    (λ content quiet in_time. quiet (law (pos c.lag) (pos c.slide) (base_events content) step in_time))
 
 pub none_bad : (o : Option (List ℕ)) (n : ℕ) (why : LineFault) → IsSomeAnd o (λ content. first_bad_line (event_line 0) most_lines content ≡ None)
     → IsSomeAnd o (λ content. first_bad_line (event_line 0) most_lines content ≡ Some (n, why)) → ⊥

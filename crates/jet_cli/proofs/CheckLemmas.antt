@@ -28,6 +28,7 @@ use Rattle.jet_cli.specs.inner.Halting.{IsKnown, IsNoBadHalt}
 use Rattle.jet_cli.specs.JobFiles.{ReadHalts, ReadsPlan}
 use Rattle.jet_cli.specs.declared.halt.Halt.{Halt}
 use Rattle.jet_cli.specs.declared.halt.Halt.TheVariants.{Refused, Stopped}
+use Rattle.jet_cli.specs.inner.RangeLaws.{AllowsLines}
 use Rattle.jet_cli.proofs.GrainLemmas.{check_of}
 use Rattle.jet_cli.specs.JobWords.{JobCommand}
 use Rattle.jet_cli.specs.Refusals.{job_refusal, text_refusal, with_options}
@@ -163,26 +164,26 @@ module _ (k : Checks) (old mid : Told) (kept : mid.content ≡ old.content) (wri
 abbrev plan_valid : Plan → Type 0
 plan_valid plan = IsValid plan.dag plan.settings
 
-checks_of : (c : JobCommand) (plan : Plan) (before opened : ℕ → Bool) (a b : Told) → plan_valid plan → ReadsPlan c plan before opened a b → (h : HasChecks c a) × IsCheckOf plan.dag plan.settings h.checks
-checks_of c plan before opened a b valid r =
+checks_of : (allows : AllowsLines) (c : JobCommand) (plan : Plan) (before opened : ℕ → Bool) (a b : Told) → plan_valid plan → ReadsPlan c plan before opened a b → (h : HasChecks c a) × IsCheckOf plan.dag plan.settings h.checks
+checks_of allows c plan before opened a b valid r =
     let valid_job : fault r.job.dag (with_options c.options r.job.settings) ≡ None =
     ap (λ (s : Settings). fault r.job.dag s) (sym r.settings) ∙ ap (λ (g : Dag). fault g plan.settings) (sym r.dag) ∙ valid in
-    let k = check_of r.job.dag (with_options c.options r.job.settings) valid_job in
+    let k = check_of allows r.job.dag (with_options c.options r.job.settings) valid_job in
     let of_plan : IsCheckOf plan.dag plan.settings k.0 =
     subst (λ (g : Dag). IsCheckOf g plan.settings k.0) (sym r.dag) (subst (λ (s : Settings). IsCheckOf r.job.dag s k.0) (sym r.settings) k.1) in
     (record { content = r.content; job = r.job; content_is = r.content_is; job_is = r.job_is; valid = valid_job; checks = k.0; is = k.1 }, of_plan)
 
 -- what is said of every check of a job, where there is one
-goes_of_all : (c : JobCommand) (plan : Plan) (P : Checks → Told → Told → Type 0) (T : Told → Told → Type 0) (before opened : ℕ → Bool) → plan_valid plan
+goes_of_all : (allows : AllowsLines) (c : JobCommand) (plan : Plan) (P : Checks → Told → Told → Type 0) (T : Told → Told → Type 0) (before opened : ℕ → Bool) → plan_valid plan
     → ((a b d : Told) (r : ReadsPlan c plan before opened a b) (h : HasChecks c a) → P h.checks b d → T a d)
     → (old mid new : Option Told) → WhereTold (ReadsPlan c plan before opened) old mid → ((k : Checks) → IsCheckOf plan.dag plan.settings k → WhereTold (P k) mid new) → WhereTold T old new
-goes_of_all c plan P T before opened valid f None mid new r all = tt
-goes_of_all c plan P T before opened valid f (Some a) None new r all = absurd r
-goes_of_all c plan P T before opened valid f (Some a) (Some b) None r all =
-    let found = checks_of c plan before opened a b valid r in
+goes_of_all allows c plan P T before opened valid f None mid new r all = tt
+goes_of_all allows c plan P T before opened valid f (Some a) None new r all = absurd r
+goes_of_all allows c plan P T before opened valid f (Some a) (Some b) None r all =
+    let found = checks_of allows c plan before opened a b valid r in
     absurd (all found.0.checks found.1)
-goes_of_all c plan P T before opened valid f (Some a) (Some b) (Some d) r all =
-    let found = checks_of c plan before opened a b valid r in
+goes_of_all allows c plan P T before opened valid f (Some a) (Some b) (Some d) r all =
+    let found = checks_of allows c plan before opened a b valid r in
     f a b d r found.0 (all found.0.checks found.1)
 
 -- the calls for the job file
@@ -193,10 +194,10 @@ job_calls name file counts = Opened name file ∷ map (Read file) counts
 then_calls : (a b d first later : List CallMade) → b ≡ a ++ first → d ≡ b ++ later → d ≡ a ++ (first ++ later)
 then_calls a b d first later one two = two ∙ ap (λ (l : List CallMade). l ++ later) one ∙ append_assoc a first later
 
-pub goes_checked : (c : JobCommand) (plan : Plan) (before opened now : ℕ → Bool) → plan_valid plan → (old mid new : Option Told) → WhereTold (ReadsPlan c plan before opened) old mid
+pub goes_checked : (allows : AllowsLines) (c : JobCommand) (plan : Plan) (before opened now : ℕ → Bool) → plan_valid plan → (old mid new : Option Told) → WhereTold (ReadsPlan c plan before opened) old mid
     → ((k : Checks) → IsCheckOf plan.dag plan.settings k → WhereTold (Calling (IsChecked k opened now)) mid new) → WhereTold (Calling (IsCheckedJob c before now)) old new
-goes_checked c plan before opened now valid =
-    goes_of_all c plan (λ k. Calling (IsChecked k opened now)) (Calling (IsCheckedJob c before now)) before opened valid
+goes_checked allows c plan before opened now valid =
+    goes_of_all allows c plan (λ k. Calling (IsChecked k opened now)) (Calling (IsCheckedJob c before now)) before opened valid
     (λ a b d r h k. record {
       calls = job_calls c.job r.file r.counts ++ k.calls;
       trace = then_calls a.trace b.trace d.trace (job_calls c.job r.file r.counts) k.calls r.trace k.trace;
@@ -211,7 +212,7 @@ goes_checked c plan before opened now valid =
         first = job_calls c.job r.file r.counts;
         later = k.calls;
         calls_are = refl;
-        reads = reads_only c.job r.file r.counts r.pieces r.few;
+        reads = reads_only c.job r.file r.counts r.pieces r.few r.live;
         files = checked_same h.checks a b r.kept r.written r.file before opened now k.calls d r.opened r.others k.did;
       };
     })
@@ -239,22 +240,22 @@ halts_check c plan stop before opened a b d r h k = record {
   calls = job_calls c.job r.file r.counts ++ k.calls;
   trace = then_calls a.trace b.trace d.trace (job_calls c.job r.file r.counts) k.calls r.trace k.trace;
   did = record {
-    order = job_checked c a (job_calls c.job r.file r.counts ++ k.calls) (job_calls c.job r.file r.counts) k.calls refl (reads_only c.job r.file r.counts r.pieces r.few) h k.did.order
+    order = job_checked c a (job_calls c.job r.file r.counts ++ k.calls) (job_calls c.job r.file r.counts) k.calls refl (reads_only c.job r.file r.counts r.pieces r.few r.live) h k.did.order
         (turns_same h.checks a b r.kept r.written (numbered h.checks) k.did.order.turns k.did.turns);
     why = why_stopped c stop r.file r.counts a b d r.kept r.written h k.calls k.did;
   };
 }
 
-pub goes_check_stops : (c : JobCommand) (plan : Plan) (stop : Stop) (before opened : ℕ → Bool) → plan_valid plan → (old mid new : Option Told) → WhereTold (ReadsPlan c plan before opened) old mid
+pub goes_check_stops : (allows : AllowsLines) (c : JobCommand) (plan : Plan) (stop : Stop) (before opened : ℕ → Bool) → plan_valid plan → (old mid new : Option Told) → WhereTold (ReadsPlan c plan before opened) old mid
     → ((k : Checks) → IsCheckOf plan.dag plan.settings k → WhereTold (Calling (CheckStops k stop)) mid new) → WhereTold (Calling (CheckHalts c (Stopped stop))) old new
-goes_check_stops c plan stop before opened valid =
-    goes_of_all c plan (λ k. Calling (CheckStops k stop)) (Calling (CheckHalts c (Stopped stop))) before opened valid (λ a b d r h s. halts_check c plan stop before opened a b d r h s)
+goes_check_stops allows c plan stop before opened valid =
+    goes_of_all allows c plan (λ k. Calling (CheckStops k stop)) (Calling (CheckHalts c (Stopped stop))) before opened valid (λ a b d r h s. halts_check c plan stop before opened a b d r h s)
 
 -- the job of files that were checked is not refused
-pub goes_check_known : (c : JobCommand) (plan : Plan) (stop : Stop) (before opened : ℕ → Bool) → plan_valid plan → (old mid new : Option Told) → WhereTold (ReadsPlan c plan before opened) old mid
+pub goes_check_known : (allows : AllowsLines) (c : JobCommand) (plan : Plan) (stop : Stop) (before opened : ℕ → Bool) → plan_valid plan → (old mid new : Option Told) → WhereTold (ReadsPlan c plan before opened) old mid
     → ((k : Checks) → IsCheckOf plan.dag plan.settings k → WhereTold (Calling (CheckStops k stop)) mid new) → WhereTold (λ a b. IsKnown (text_refusal c.options (a.content c.job)) (Stopped stop)) old new
-goes_check_known c plan stop before opened valid =
-    goes_of_all c plan (λ k. Calling (CheckStops k stop)) (λ a b. IsKnown (text_refusal c.options (a.content c.job)) (Stopped stop)) before opened valid
+goes_check_known allows c plan stop before opened valid =
+    goes_of_all allows c plan (λ k. Calling (CheckStops k stop)) (λ a b. IsKnown (text_refusal c.options (a.content c.job)) (Stopped stop)) before opened valid
     (λ a b d r h s. none_known (text_refusal c.options (a.content c.job)) (Stopped stop) (ap (text_refusal c.options) h.content_is ∙ ap (job_refusal c.options) h.job_is ∙ ap (option_map refusal.Plan) h.valid))
 
 -- the reading of the job file ended early

@@ -62,6 +62,7 @@ reads_plan c text job plan before now a b job_is dag settings r =
       written = r.written;
       counts = r.counts;
       pieces = r.pieces;
+      live = r.live;
       few = r.few;
       trace = r.trace;
     }
@@ -84,7 +85,7 @@ read_halts : (c : JobCommand) (text : List ℕ) (halt : Halt) (before now : ℕ 
 read_halts c text halt before now a b r why = record {
   calls = Opened c.job r.file ∷ map (Read r.file) r.counts;
   trace = r.trace;
-  did = record { order = reads_only c.job r.file r.counts r.pieces r.few; why = why; written = r.written };
+  did = record { order = reads_only c.job r.file r.counts r.pieces r.few r.live; why = why; written = r.written };
 }
 
 halts_job : (c : JobCommand) (text : List ℕ) (e : Refusing JobFault) (before now : ℕ → Bool) (a b : Told) → Fails e (job_at text) → ReadsJobFile c.job text before now a b → Calling (ReadHalts c (job_halt e)) a b
@@ -164,7 +165,7 @@ planned c plan text before now a b d valid is r w = record {
   calls = Opened c.job r.file ∷ (turn_calls (record { file = r.file; counts = r.counts; lengths = w.lengths }) ++ []);
   trace = turn_trace a.trace b.trace d.trace c.job r.file r.counts w.lengths [] r.trace w.trace;
   did = record {
-    order = reads_job c.job r.file r.counts w.lengths [] r.pieces r.few (All-nil ReadsOrWrites) (inl refl);
+    order = reads_job c.job r.file r.counts w.lengths [] r.pieces r.few r.live (All-nil ReadsOrWrites) (inl refl);
     job = job_read_of c plan before now a b d valid r (ap (λ (p : ℕ → Place). p r.file) w.place);
     alone = r.opened.others;
     rows_written = w.written ∙ ap (λ wrote. wrote Rows ++ text) r.written
@@ -211,7 +212,7 @@ plan_stops c plan text stop before now a b d valid is r w =
       calls = calls;
       trace = turn_trace a.trace b.trace d.trace c.job r.file r.counts w.lengths w.last r.trace w.trace;
       did = record {
-        order = reads_job c.job r.file r.counts w.lengths w.last r.pieces r.few (none_last such stop w.last (none_in Job r.file) fails) (ends_last such stop w.last fails);
+        order = reads_job c.job r.file r.counts w.lengths w.last r.pieces r.few r.live (none_last such stop w.last (none_in Job r.file) fails) (ends_last such stop w.last fails);
         why = why_written c stop calls a d (named_after job_place Job c.job r.file (turn_calls turn) stop w.last refl fails) (begins_plan c plan text stop before now a b d valid is r w);
       };
     }
@@ -226,5 +227,5 @@ pub goes_plan_lost : (c : JobCommand) (plan : Plan) (before now : ℕ → Bool) 
 goes_plan_lost c plan before now = goes_weaker (ReadsPlan c plan before now) (Calling (PlanHalts c (Stopped NoMemory))) (λ a b r. record {
   calls = Opened c.job r.file ∷ map (Read r.file) r.counts;
   trace = r.trace;
-  did = record { order = reads_only c.job r.file r.counts r.pieces r.few; why = inl r.written };
+  did = record { order = reads_only c.job r.file r.counts r.pieces r.few r.live; why = inl r.written };
 })

@@ -15,12 +15,12 @@ use Rattle.jet_items.specs.Values.{EventValue, RowValue, LateValue}
 use Rattle.jet_lines.specs.Files.{are_good, events_in, most_lines}
 use Rattle.jet_lines.specs.Lines.{lines_of}
 use Rattle.jet_lines.specs.Readings.{event_line}
-use Rattle.jet_lines.proofs.FileLemmas.{all_good}
 use Rattle.jet_file.specs.Headline.{late_at, Headline}
 use Rattle.jet_file.specs.Outside.{Told, Place, OpensFile, AddsNumber, CallMade, Opened, Read, rest_of}
 use Rattle.jet_file.specs.Text.{row_line, late_line, rows_text, late_text}
 use Rattle.jet_file.specs.declared.outside.Out.TheVariants.{Rows, Notes}
-use Rattle.jet_file.proofs.ReadLemmas.{opened_rest}
+use Rattle.jet_cli.specs.inner.FileLaws.{FileLaws}
+use Rattle.jet_cli.specs.inner.LineLaws.{LineLaws}
 use Rattle.jet_cli.specs.Base.{base_window, base_events, base_inflow, base_behind}
 use Rattle.jet_cli.specs.Counting.{late_among, kept_among, as_late}
 use Rattle.jet_cli.specs.Done.{IsDone}
@@ -129,13 +129,13 @@ abbrev Keeps : WindowCommand → List RowValue → List CallMade → Source → 
 Keeps c table calls s = (before after : List CallMade) (n : ℕ) → calls ≡ before ++ Read s.file n ∷ after
     → IfSome (s.mark (taken_by s.file before)) (λ m. length (rows_text (base_window c ∷ []) (rows_until (m -ℤ base_ahead) table)) ≤ wrote_by Rows before)
 
-pub pace_is : (c : WindowCommand) (file : ℕ) (before now : ℕ → Bool) (old start new : Told) (bytes content : List ℕ) (closed : Option ℤ) (table : List RowValue)
+pub pace_is : (laws : FileLaws) (c : WindowCommand) (file : ℕ) (before now : ℕ → Bool) (old start new : Told) (bytes content : List ℕ) (closed : Option ℤ) (table : List RowValue)
     → OpensFile c.file file old start → AddsNumber file before now → (h : HasPaced c file bytes closed table start new) → ReadsReady c (rest_of start file) file h.calls → rest_of start file ≡ content → All (λ r. r.vertex ≡ 2) table
     → KeepsPace c content table before now old new
-pace_is c file before now old start new bytes content closed table opens adds h ready whole at = record {
+pace_is laws c file before now old start new bytes content closed table opens adds h ready whole at = record {
   calls = Opened c.file file ∷ h.calls;
   opens = (refl, h.quiet);
-  ready = ready_opened c file old start h.calls opens ready;
+  ready = ready_opened laws c file old start h.calls opens ready;
   trace = h.trace ∙ ap (λ (l : List CallMade). l ++ h.calls) opens.trace ∙ append_assoc old.trace (Opened c.file file ∷ []) h.calls;
   paced = λ other fresh added named.
       subst (λ (f : ℕ). IsPaced (base_window c ∷ []) (base_source c content f ∷ []) base_ahead table (Opened c.file file ∷ h.calls)) (sym (added_one file other before now adds fresh added))
@@ -157,7 +157,7 @@ pace_is c file before now old start new bytes content closed table opens adds h 
         (shown front after n (same_tail (Opened c.file file) x h.calls (front ++ Read file n ∷ after) e))
 
 -- ---- what Done says
-pub done_is : (c : WindowCommand) (file : ℕ) (before now : ℕ → Bool) (old start new : Told) (bytes rows : List ℕ) (given : List (List ℕ)) (table : List RowValue)
+pub done_is : (laws : FileLaws) (line_laws : LineLaws) (c : WindowCommand) (file : ℕ) (before now : ℕ → Bool) (old start new : Told) (bytes rows : List ℕ) (given : List (List ℕ)) (table : List RowValue)
     → OpensFile c.file file old start → AddsNumber file before now
     → HasRun c file bytes true rows (base_late_text (late_among c (events_in most_lines 0 given))) start new
     → rows ≡ base_rows_text c table
@@ -167,10 +167,10 @@ pub done_is : (c : WindowCommand) (file : ℕ) (before now : ℕ → Bool) (old 
     → (closed : Option ℤ) → HasPaced c file bytes closed table start new
     → IsDone c before now old new
 unfolding headline_is
-done_is c file before now old start new bytes rows given table opens adds run rows_are cut good all closed paced =
+done_is laws line_laws c file before now old start new bytes rows given table opens adds run rows_are cut good all closed paced =
     let found = some_of (old.content c.file) opens.there in
     let content : List ℕ = found.0 in
-    let same : bytes ≡ content = sym (append-nil bytes) ∙ ap (λ (s : List ℕ). bytes ++ s) (sym (run.end refl)) ∙ sym run.rest ∙ opened_rest c.file content file old start found.1 opens in
+    let same : bytes ≡ content = sym (append-nil bytes) ∙ ap (λ (s : List ℕ). bytes ++ s) (sym (run.end refl)) ∙ sym run.rest ∙ laws.opened c.file content file old start found.1 opens in
     let lines : lines_of content ≡ given = ap lines_of (sym same ∙ sym (append-nil bytes)) ∙ cut [] (λ e. refl) ∙ append-nil given in
     let events : events_in most_lines 0 given ≡ base_events content = ap (events_in most_lines 0) (sym lines) in
     let good2 : are_good (event_line 0) most_lines (lines_of content) ≡ true = ap (are_good (event_line 0) most_lines) lines ∙ good in
@@ -190,13 +190,13 @@ done_is c file before now old start new bytes rows given table opens adds run ro
         opened = adds.added;
         place = ap (λ (n : List ℕ). let p : Place = record { name = n; taken = (new.place file).taken } in p) name ∙ ap (λ (t : ℕ). let p : Place = record { name = c.file; taken = t } in p) taken;
       };
-      good = (all_good (event_line 0) most_lines content good2).0;
+      good = (line_laws.all 0 most_lines content good2).0;
       rows_written = run.rows_written ∙ ap (λ w. w Rows ++ rows) opens.written ∙ ap (λ (l : List ℕ). old.written Rows ++ l) rows_are;
       notes_written = run.notes_written ∙ ap (λ w. w Notes ++ base_late_text (late_among c (events_in most_lines 0 given))) opens.written
           ∙ ap (λ (es : List EventValue). old.written Notes ++ base_late_text (late_among c es)) events;
       headline = head;
-      pace = pace_is c file before now old start new bytes content closed table opens adds paced
-          (subst (ReadsReady c (rest_of start file) file) (cancel start.trace run.calls paced.calls (sym run.trace ∙ paced.trace)) run.ready) (opened_rest c.file content file old start found.1 opens) (vertices c (kept_among c (base_events content)) table all2);
+      pace = pace_is laws c file before now old start new bytes content closed table opens adds paced
+          (subst (ReadsReady c (rest_of start file) file) (cancel start.trace run.calls paced.calls (sym run.trace ∙ paced.trace)) run.ready) (laws.opened c.file content file old start found.1 opens) (vertices c (kept_among c (base_events content)) table all2);
       kept = run.content ∙ opens.content;
       exact = All-cons (λ (k : Inflow). All (λ (e : EventValue). base_behind c content e ≡ false) k.events) (record { window = base_window c; events = kept_among c (base_events content) }) [] (kept_not_behind c content) (All-nil (λ (k : Inflow). All (λ (e : EventValue). base_behind c content e ≡ false) k.events));
     }

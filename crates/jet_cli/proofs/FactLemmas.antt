@@ -30,6 +30,7 @@ use Rattle.jet_cli.specs.declared.halt.Halt.{Halt}
 use Rattle.jet_cli.specs.declared.halt.Halt.TheVariants.{Refused, Stopped}
 use Rattle.jet_cli.specs.declared.status.Refusal.{Refusal}
 use Rattle.jet_cli.specs.declared.status.Refusal.TheVariants as refusal
+use Rattle.jet_laws.specs.InTime.{NoneIsBehind}
 use Rattle.jet_cli.proofs.AnswerLemmas.{in_time_is, never_bad, quiet_is}
 use Rattle.jet_file.proofs.GoesLaws.{goes_same, goes_weaker}
 use Rattle.jet_cli.proofs.MeetLemmas.{Begun, Facts, Fails, Halted}
@@ -86,12 +87,12 @@ begun_none c old now (Err (Stopped (BadLine p l w))) h = tt
 begun_none c old now (Err (Stopped (Outside call spot))) h = goes_weaker (Calling (IsInOrder (WindowOf c))) (HasBegun (WindowOf c)) (λ a b s. tt) old now h
 begun_none c old now (Err (Stopped NoMemory)) h = goes_weaker (Calling (IsInOrder (WindowOf c))) (HasBegun (WindowOf c)) (λ a b s. tt) old now h
 
-pub base_facts : {S : Type 0} (told : S → Option Told) (opened : S → ℕ → Bool) (steady : S → Bool) (faults : S → ℕ) (c : WindowCommand) (old now : S) (r : Result (Unit {0}) Halt)
+pub base_facts : {S : Type 0} (law : NoneIsBehind) (told : S → Option Told) (opened : S → ℕ → Bool) (steady : S → Bool) (faults : S → ℕ) (c : WindowCommand) (old now : S) (r : Result (Unit {0}) Halt)
     → OnOk r (pos 1 ≤ℤ pos c.slide)
     → OnOk r (WhereTold (IsDone c (opened old) (opened now)) (told old) (told now)) → OnOk r (base_fault c ≡ None) → IfErr r (BaseHalts c (told old) (told now)) → IfErr r (λ halt. IsRefusal halt → now ≡ old)
     → HaltOutcome steady faults old now r → (steady old ≡ true → IfErr r (λ halt. IsOutsideHalt halt → LacksFile c.file (told old)))
     → Facts told opened steady faults (WindowOf c) old now r
-base_facts told opened steady faults c old now r slide done valid halt untouched outcome works =
+base_facts law told opened steady faults c old now r slide done valid halt untouched outcome works =
     let quiet : OnOk r (WhereTold (IsQuiet c) (told old) (told now)) =
     weaker_ok r (WhereTold (IsDone c (opened old) (opened now)) (told old) (told now)) (WhereTold (IsQuiet c) (told old) (told now))
     (goes_weaker (IsDone c (opened old) (opened now)) (IsQuiet c) (quiet_is c (opened old) (opened now)) (told old) (told now)) done in
@@ -109,7 +110,7 @@ base_facts told opened steady faults c old now r slide done valid halt untouched
     }
   where
     in_time_on : (r : Result (Unit {0}) Halt) → OnOk r (pos 1 ≤ℤ pos c.slide) → OnOk r (WhereTold (IsQuiet c) (told old) (told now)) → OnOk r (WhereTold (IsQuietInTime c) (told old) (told now))
-    in_time_on (Ok d) step quiet = goes_weaker (IsQuiet c) (IsQuietInTime c) (λ a b. in_time_is c a b step) (told old) (told now) quiet
+    in_time_on (Ok d) step quiet = goes_weaker (IsQuiet c) (IsQuietInTime c) (λ a b. in_time_is law c a b step) (told old) (told now) quiet
     in_time_on (Err e) step quiet = tt
 
 -- ---- `plan`

@@ -11,7 +11,7 @@ use Rattle.jet_flow.specs.DataFiles.{data_files}
 use Rattle.jet_flow.specs.Grain.{IsGreatestDivisor, slides}
 use Rattle.jet_worker.specs.CheckText.{Checks}
 use Rattle.jet_worker.specs.Checked.{IsCheckOf}
-use Rattle.jet_worker.proofs.PlanLemmas.{lines_within}
+use Rattle.jet_cli.specs.inner.RangeLaws.{AllowsLines}
 
 -- ---- the unit of the watermarks
 -- two numbers have a greatest common divisor
@@ -38,8 +38,8 @@ divisor_of (n ∷ ns) =
     )
 
 -- a valid job has a check
-pub check_of : (dag : Dag) (s : Settings) → fault dag s ≡ None → (k : Checks) × IsCheckOf dag s k
-check_of dag s valid =
+pub check_of : AllowsLines → (dag : Dag) (s : Settings) → fault dag s ≡ None → (k : Checks) × IsCheckOf dag s k
+check_of allows dag s valid =
     let unit = divisor_of (slides dag) in
     let k : Checks = record { files = data_files dag; most = unsigned_abs s.lines; unit = unit.0 } in
-    (k, record { files = refl; most = (lines_within dag s valid).0; unit = unit.1 })
+    (k, record { files = refl; most = allows dag s valid; unit = unit.1 })

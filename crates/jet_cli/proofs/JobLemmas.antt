@@ -23,7 +23,7 @@ use Rattle.jet_cli.specs.inner.TextReading.{ReadsFront, StopsReading}
 use Rattle.jet_cli.proofs.DoneLemmas.{some_of}
 use Rattle.jet_file.proofs.GoesLaws.{goes_then, goes_weaker}
 use Rattle.jet_cli.proofs.OrderLemmas.{named_after, opening_named, reads_job, unopened}
-use Rattle.jet_file.proofs.ReadLemmas.{opened_rest}
+use Rattle.jet_cli.specs.inner.FileLaws.{FileLaws}
 
 -- ---- the text of a job file
 -- what was read is the front of all
@@ -39,14 +39,14 @@ front_is most text rest content is short all = front_if (short_or_full (length t
         sym (ap (take most) same ∙ take_all most text short)
     front_if (inr full) = sym (ap (take most) is ∙ ap (λ (k : ℕ). take k (text ++ rest)) (sym full) ∙ take-append_seam text rest)
 
-reads_job_file : (name text : List ℕ) (file most : ℕ) (before now : ℕ → Bool) (a b c : Told) → most ≡ most_text → AddsNumber file before now → OpensFile name file a b → ReadsFront file most text b c
+reads_job_file : (laws : FileLaws) (name text : List ℕ) (file most : ℕ) (before now : ℕ → Bool) (a b c : Told) → most ≡ most_text → AddsNumber file before now → OpensFile name file a b → ReadsFront file most text b c
     → ReadsJobFile name text before now a c
-reads_job_file name text file most before now a b c is adds o r =
+reads_job_file laws name text file most before now a b c is adds o r =
     let found = some_of (a.content name) o.there in
     let content : List ℕ = found.0 in
-    let parts : content ≡ text ++ rest_of c file = sym (opened_rest name content file a b found.1 o) ∙ r.took.read.rest in
-    let taken : (c.place file).taken ≡ length text = r.took.read.taken ∙ ap (λ (p : Place). p.taken + length text) o.place ∙ omega arith in
-    let named : (c.place file).name ≡ name = r.took.read.name ∙ ap (λ (p : Place). p.name) o.place in
+    let parts : content ≡ text ++ rest_of c file = sym (laws.opened name content file a b found.1 o) ∙ r.read.rest in
+    let taken : (c.place file).taken ≡ length text = r.read.taken ∙ ap (λ (p : Place). p.taken + length text) o.place ∙ omega arith in
+    let named : (c.place file).name ≡ name = r.read.name ∙ ap (λ (p : Place). p.name) o.place in
     record {
       file = file;
       opened = adds;
@@ -54,22 +54,23 @@ reads_job_file name text file most before now a b c is adds o r =
       content_is = found.1;
       front = front_is most text (rest_of c file) content parts r.short r.all ∙ ap (λ (k : ℕ). take k content) is;
       place = ap (λ (n : List ℕ). let p : Place = record { name = n; taken = (c.place file).taken } in p) named ∙ ap (λ (t : ℕ). let p : Place = record { name = name; taken = t } in p) taken;
-      others = λ other ne. r.took.read.others other ne ∙ o.others other ne;
-      kept = r.took.read.content ∙ o.content;
-      written = r.took.read.written ∙ o.written;
-      counts = r.took.read.counts;
-      pieces = r.took.pieces;
-      few = few r.took.read.counts text most r.took.read.sum r.short is;
-      trace = r.took.read.trace ∙ ap (λ (t : List CallMade). t ++ map (Read file) r.took.read.counts) o.trace ∙ append_assoc a.trace (Opened name file ∷ []) (map (Read file) r.took.read.counts);
+      others = λ other ne. r.read.others other ne ∙ o.others other ne;
+      kept = r.read.content ∙ o.content;
+      written = r.read.written ∙ o.written;
+      counts = r.read.counts;
+      pieces = r.pieces;
+      live = r.live;
+      few = few r.read.counts text most r.read.sum r.short is;
+      trace = r.read.trace ∙ ap (λ (t : List CallMade). t ++ map (Read file) r.read.counts) o.trace ∙ append_assoc a.trace (Opened name file ∷ []) (map (Read file) r.read.counts);
     }
   where
     few : (counts text : List ℕ) (most : ℕ) → sum counts ≡ length text → length text ≤ most → most ≡ most_text → sum counts ≤ most_text
     few counts text most all short is = omega (arith, all, short, is)
 
-pub goes_job_file : (name text : List ℕ) (file most : ℕ) (before now : ℕ → Bool) (old mid new : Option Told) → most ≡ most_text → AddsNumber file before now → WhereTold (OpensFile name file) old mid
+pub goes_job_file : (laws : FileLaws) (name text : List ℕ) (file most : ℕ) (before now : ℕ → Bool) (old mid new : Option Told) → most ≡ most_text → AddsNumber file before now → WhereTold (OpensFile name file) old mid
     → WhereTold (ReadsFront file most text) mid new → WhereTold (ReadsJobFile name text before now) old new
-goes_job_file name text file most before now old mid new is adds =
-    goes_then (OpensFile name file) (ReadsFront file most text) (ReadsJobFile name text before now) (λ a b c o r. reads_job_file name text file most before now a b c is adds o r) old mid new
+goes_job_file laws name text file most before now old mid new is adds =
+    goes_then (OpensFile name file) (ReadsFront file most text) (ReadsJobFile name text before now) (λ a b c o r. reads_job_file laws name text file most before now a b c is adds o r) old mid new
 
 -- the reading of a file that was opened stopped
 stops_after : (name : List ℕ) (file most : ℕ) (stop : Stop) (a b c : Told) → most ≡ most_text → OpensFile name file a b → StopsReading Job file most stop b c → Calling (StopsJob name stop) a c
@@ -82,7 +83,7 @@ stops_after name file most stop a b c is o s =
       trace = s.reads.trace ∙ ap (λ (l : List CallMade). l ++ map (Read file) counts ++ last) o.trace ∙ append_assoc (a.trace ++ Opened name file ∷ []) (map (Read file) counts) last
           ∙ append_assoc a.trace (Opened name file ∷ []) (map (Read file) counts ++ last) ∙ ap (λ (l : List CallMade). a.trace ++ (Opened name file ∷ (l ++ last))) (sym (append-nil (map (Read file) counts)));
       did = record {
-        order = reads_job name file counts [] last s.reads.pieces (subst (λ (n : ℕ). sum counts ≤ n) is s.few) (none_last such stop last (none_in Job file) s.reads.fails) (ends_last such stop last s.reads.fails);
+        order = reads_job name file counts [] last s.reads.pieces (subst (λ (n : ℕ). sum counts ≤ n) is s.few) s.live (none_last such stop last (none_in Job file) s.reads.fails) (ends_last such stop last s.reads.fails);
         fails = named_after job_place Job name file (turn_calls (record { file = file; counts = counts; lengths = [] })) stop last refl s.reads.fails;
         written = s.reads.written ∙ o.written;
       };

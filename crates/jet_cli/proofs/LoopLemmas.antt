@@ -25,6 +25,8 @@ use Rattle.jet_worker.proofs.CallLaws.{last_weaker, read_last, write_in}
 use Rattle.jet_cli.specs.LineStops.{LineStop, IsBadIn, IsBadLineAt, IsWrote, RunStops, StepStops}
 use Rattle.jet_cli.specs.inner.Progress.{HasRun, Progress, TookLine, base_rows_text, base_late_text}
 use Rattle.jet_worker.specs.Stopping.{IsCallIn, IsWriting, IsForOutside, IsNoBadLine, CauseOfStop, Outcome, OpenOutcome}
+use Rattle.jet_cli.specs.inner.FileLaws.{FileLaws}
+use Rattle.jet_cli.specs.inner.LineLaws.{LineLaws}
 use Rattle.jet_cli.specs.inner.Took.{Prints}
 use Rattle.jet_cli.specs.Words.{WindowCommand}
 use Rattle.jet_cli.specs.declared.counter.WindowCounter.{WindowCounter}
@@ -38,34 +40,34 @@ use Rattle.jet_cli.proofs.RunLemmas.{goes_writes}
 use Rattle.jet_cli.proofs.StopLemmas.{goes_run_stops, bad_cut, bad_read}
 
 -- one line more
-pub took_line : (c : WindowCommand) (file : ℕ) (start now next : Option Told) (lines lines' : LinesValue) (w w' : WindowCounter) (n : ℕ) (line : List ℕ)
+pub took_line : (line_laws : LineLaws) (c : WindowCommand) (file : ℕ) (start now next : Option Told) (lines lines' : LinesValue) (w w' : WindowCounter) (n : ℕ) (line : List ℕ)
     → Progress c file start now lines w → NextIs lines (cut.Line n) lines' → line ≡ lines'.line
     → ((c' : WindowCommand) (events : List EventValue) (table : List RowValue) → Counts c' events table w.marker w.window → Prints c' w → All (λ e. e.line < n) events
     → w.rows.items ≡ [] → w.notes.items ≡ [] → TookLine c' events table n line now next w')
     → Progress c file start next lines' w'
-took_line c file start now next lines lines' w w' n line p next_is same took =
+took_line line_laws c file start now next lines lines' w w' n line p next_is same took =
     let number : n ≡ length p.given + 1 = next_is.0 ∙ ap (λ (k : ℕ). k + 1) p.number in
     let before : All (λ (e : EventValue). e.line < n) (events_in most_lines 0 p.given) =
     subst (λ (k : ℕ). All (λ (e : EventValue). e.line < k) (events_in most_lines 0 p.given)) (sym number) p.before in
     let t : TookLine c (events_in most_lines 0 p.given) p.table n line now next w' = took c (events_in most_lines 0 p.given) p.table p.counts p.prints before p.no_rows p.no_notes in
-    progress_line c file start now next lines lines' w w' n p next_is
+    progress_line line_laws c file start now next lines lines' w w' n p next_is
     (subst (λ (l : List ℕ). TookLine c (events_in most_lines 0 p.given) p.table n l now next w') same t)
 
 -- one piece more
-pub took_piece : (c : WindowCommand) (file : ℕ) (start now next : Option Told) (lines lines1 lines' : LinesValue) (w : WindowCounter)
+pub took_piece : (line_laws : LineLaws) (c : WindowCommand) (file : ℕ) (start now next : Option Told) (lines lines1 lines' : LinesValue) (w : WindowCounter)
     → Progress c file start now lines w → NextIs lines cut.More lines1 → PutsPiece lines1 lines' → WhereTold (TakesPiece file lines1 lines') now next → Progress c file start next lines' w
-took_piece c file start now next lines lines1 lines' w p more puts told =
+took_piece line_laws c file start now next lines lines1 lines' w p more puts told =
     let same : lines1 ≡ lines = more.3 in
     let live : lines1.ended ≡ false = ap (λ (v : LinesValue). v.ended) same ∙ more.0 in
-    progress_more c file start now next lines1 lines' w (subst (λ (v : LinesValue). Progress c file start now v w) (sym same) p) live
+    progress_more line_laws c file start now next lines1 lines' w (subst (λ (v : LinesValue). Progress c file start now v w) (sym same) p) live
     (subst (λ (v : LinesValue). NoFeed v.rest (length v.rest)) (sym same) more.1.0) puts told
 
 -- the run stops at a line that the cutter refused
-pub stops_at_cut : (c : WindowCommand) (file : ℕ) (old start now : Option Told) (lines lines' : LinesValue) (w : WindowCounter) (n : ℕ) (why : LineFault)
+pub stops_at_cut : (laws : FileLaws) (line_laws : LineLaws) (c : WindowCommand) (file : ℕ) (old start now : Option Told) (lines lines' : LinesValue) (w : WindowCounter) (n : ℕ) (why : LineFault)
     → Progress c file start now lines w → NextIs lines (cut.Bad n why) lines' → WhereTold (OpensFile c.file file) old start → WhereTold (Calling (RunStops c (BadLine 0 n why))) old now
-stops_at_cut c file old start now lines lines' w n why p bad opens =
-    goes_run_stops c file p.bytes lines.ended (base_rows_text c p.table) (base_late_text (late_among c (events_in most_lines 0 p.given))) (BadLine 0 n why) old start now now
-    (bad_cut c file start now lines w p n 0 why lines' refl bad) opens p.told (goes_same (StepStops (IsCallIn (Part 0) file) (BadLine 0 n why)) (λ a. record { calls = []; wrote = All-nil IsWrote; last = []; fails = refl; trace = sym (append-nil (a.trace ++ []) ∙ append-nil a.trace) }) now)
+stops_at_cut laws line_laws c file old start now lines lines' w n why p bad opens =
+    goes_run_stops laws c file p.bytes lines.ended (base_rows_text c p.table) (base_late_text (late_among c (events_in most_lines 0 p.given))) (BadLine 0 n why) old start now now
+    (bad_cut line_laws c file start now lines w p n 0 why lines' refl bad) opens p.told (goes_same (StepStops (IsCallIn (Part 0) file) (BadLine 0 n why)) (λ a. record { calls = []; wrote = All-nil IsWrote; last = []; fails = refl; trace = sym (append-nil (a.trace ++ []) ∙ append-nil a.trace) }) now)
 
 -- a step that writes is one of any file
 of_writing : (file : ℕ) (stop : Stop) (now next : Option Told) → WhereTold (StepStops IsWriting stop) now next → WhereTold (StepStops (IsCallIn (Part 0) file) stop) now next
@@ -78,11 +80,11 @@ of_writing file stop = goes_weaker (StepStops IsWriting stop) (StepStops (IsCall
 })
 
 -- the run stops in reading or counting a line
-pub stops_at_line : (c : WindowCommand) (file : ℕ) (old start now next : Option Told) (lines lines' : LinesValue) (w : WindowCounter) (n : ℕ) (line : List ℕ) (stop : Stop)
+pub stops_at_line : (laws : FileLaws) (line_laws : LineLaws) (c : WindowCommand) (file : ℕ) (old start now next : Option Told) (lines lines' : LinesValue) (w : WindowCounter) (n : ℕ) (line : List ℕ) (stop : Stop)
     → Progress c file start now lines w → NextIs lines (cut.Line n) lines' → line ≡ lines'.line → LineStop n line now next stop → WhereTold (OpensFile c.file file) old start → WhereTold (Calling (RunStops c stop)) old next
-stops_at_line c file old start now next lines lines' w n line stop p next_is same h opens =
-    goes_run_stops c file p.bytes lines.ended (base_rows_text c p.table) (base_late_text (late_among c (events_in most_lines 0 p.given))) stop old start now next
-    (bad_read c file start now lines w p n lines' stop next_is (subst (λ (l : List ℕ). IsBadLineAt n l stop) same h.1)) opens p.told (of_writing file stop now next h.0)
+stops_at_line laws line_laws c file old start now next lines lines' w n line stop p next_is same h opens =
+    goes_run_stops laws c file p.bytes lines.ended (base_rows_text c p.table) (base_late_text (late_among c (events_in most_lines 0 p.given))) stop old start now next
+    (bad_read line_laws c file start now lines w p n lines' stop next_is (subst (λ (l : List ℕ). IsBadLineAt n l stop) same h.1)) opens p.told (of_writing file stop now next h.0)
 
 none_bad : (stop : Stop) → IsNoBadLine stop → (content : List ℕ) → IsBadIn content stop
 none_bad (BadLine part line why) h content = absurd h
@@ -100,17 +102,17 @@ stops_read file stop = goes_weaker (FailsAt call.Read (Part 0) (Reading file) st
 })
 
 -- the run stops for another cause
-pub stops_else : (c : WindowCommand) (file : ℕ) (old start now next : Option Told) (lines : LinesValue) (w : WindowCounter) (stop : Stop)
+pub stops_else : (laws : FileLaws) (c : WindowCommand) (file : ℕ) (old start now next : Option Told) (lines : LinesValue) (w : WindowCounter) (stop : Stop)
     → Progress c file start now lines w → IsNoBadLine stop → WhereTold (StepStops (IsCallIn (Part 0) file) stop) now next → WhereTold (OpensFile c.file file) old start → WhereTold (Calling (RunStops c stop)) old next
-stops_else c file old start now next lines w stop p never told opens =
-    goes_run_stops c file p.bytes lines.ended (base_rows_text c p.table) (base_late_text (late_among c (events_in most_lines 0 p.given))) stop old start now next
+stops_else laws c file old start now next lines w stop p never told opens =
+    goes_run_stops laws c file p.bytes lines.ended (base_rows_text c p.table) (base_late_text (late_among c (events_in most_lines 0 p.given))) stop old start now next
     (λ content more is may. none_bad stop never content) opens p.told told
 
-pub stops_at_end : (c : WindowCommand) (file : ℕ) (old start now next : Option Told) (lines : LinesValue) (w : WindowCounter) (r : Result (Unit {0}) Stop)
+pub stops_at_end : (laws : FileLaws) (c : WindowCommand) (file : ℕ) (old start now next : Option Told) (lines : LinesValue) (w : WindowCounter) (r : Result (Unit {0}) Stop)
     → Progress c file start now lines w → WhereTold (OpensFile c.file file) old start
     → IfErr r (λ stop. IsNoBadLine stop × WhereTold (StepStops IsWriting stop) now next) → IfErr r (λ stop. WhereTold (Calling (RunStops c stop)) old next)
-stops_at_end c file old start now next lines w (Ok d) p opens h = tt
-stops_at_end c file old start now next lines w (Err stop) p opens h = stops_else c file old start now next lines w stop p h.0 (of_writing file stop now next h.1) opens
+stops_at_end laws c file old start now next lines w (Ok d) p opens h = tt
+stops_at_end laws c file old start now next lines w (Err stop) p opens h = stops_else laws c file old start now next lines w stop p h.0 (of_writing file stop now next h.1) opens
 
 -- two steps that both go
 goes_both : (step more : Told → Told → Type 0) (now next : Option Told) → WhereTold step now next → WhereTold more now next → WhereTold (λ a b. step a b × more a b) now next
@@ -119,10 +121,10 @@ goes_both step more (Some a) None h k = h
 goes_both step more (Some a) (Some b) h k = (h, k)
 
 -- the run is done
-goes_done : (c : WindowCommand) (file : ℕ) (before after : ℕ → Bool) (old start now next : Option Told) (lines lines' : LinesValue) (w : WindowCounter)
+goes_done : (laws : FileLaws) (line_laws : LineLaws) (c : WindowCommand) (file : ℕ) (before after : ℕ → Bool) (old start now next : Option Told) (lines lines' : LinesValue) (w : WindowCounter)
     → (p : Progress c file start now lines w) → NextIs lines cut.End lines' → WhereTold (OpensFile c.file file) old start → AddsNumber file before after
     → (e : Ends c (events_in most_lines 0 p.given) p.table now next) → WhereTold (IsDone c before after) old next
-goes_done c file before after old start now next lines lines' w p end opens adds e =
+goes_done laws line_laws c file before after old start now next lines lines' w p end opens adds e =
     let events : List EventValue = events_in most_lines 0 p.given in
     let run : WhereTold (HasRun c file p.bytes lines.ended (base_rows_text c p.table ++ base_rows_text c e.more) (base_late_text (late_among c events) ++ [])) start next =
     goes_writes c file p.bytes lines.ended (base_rows_text c p.table) (base_late_text (late_among c events)) (base_rows_text c e.more) [] start now next p.told e.told in
@@ -133,16 +135,16 @@ goes_done c file before after old start now next lines lines' w p end opens adds
     let closed : Option ℤ = mark_after c events in
     let paced : WhereTold (HasPaced c file p.bytes closed (p.table ++ e.more)) start next = goes_paced_appends c file p.bytes closed closed p.table e.more [] start now next p.paced e.told e.closes in
     goes_then (OpensFile c.file file) (λ a b. HasRun c file p.bytes true (base_rows_text c p.table ++ base_rows_text c e.more) (base_late_text (late_among c events)) a b × HasPaced c file p.bytes closed (p.table ++ e.more) a b) (IsDone c before after)
-    (λ a b d o r. done_is c file before after a b d p.bytes (base_rows_text c p.table ++ base_rows_text c e.more) p.given (p.table ++ e.more) o adds r.0 rows
+    (λ a b d o r. done_is laws line_laws c file before after a b d p.bytes (base_rows_text c p.table ++ base_rows_text c e.more) p.given (p.table ++ e.more) o adds r.0 rows
     (λ more may. p.cut more (λ is. may refl) ∙ ap (λ (l : List ℕ). p.given ++ lines_of (l ++ more)) end.1) p.good e.all closed r.1) old start next opens (goes_both (HasRun c file p.bytes true (base_rows_text c p.table ++ base_rows_text c e.more) (base_late_text (late_among c events))) (HasPaced c file p.bytes closed (p.table ++ e.more)) start next run2 paced)
 
-pub done_at_end : (c : WindowCommand) (file : ℕ) (before after : ℕ → Bool) (old start now next : Option Told) (lines lines' : LinesValue) (w : WindowCounter) (r : Result (Unit {0}) Stop)
+pub done_at_end : (laws : FileLaws) (line_laws : LineLaws) (c : WindowCommand) (file : ℕ) (before after : ℕ → Bool) (old start now next : Option Told) (lines lines' : LinesValue) (w : WindowCounter) (r : Result (Unit {0}) Stop)
     → Progress c file start now lines w → NextIs lines cut.End lines' → WhereTold (OpensFile c.file file) old start → AddsNumber file before after
     → OnOk r ((c' : WindowCommand) (events : List EventValue) (table : List RowValue) → Counts c' events table w.marker w.window → Prints c' w → w.rows.items ≡ [] → w.notes.items ≡ [] → Ends c' events table now next)
     → OnOk r (WhereTold (IsDone c before after) old next)
-done_at_end c file before after old start now next lines lines' w (Ok d) p end opens adds ends =
-    goes_done c file before after old start now next lines lines' w p end opens adds (ends c (events_in most_lines 0 p.given) p.table p.counts p.prints p.no_rows p.no_notes)
-done_at_end c file before after old start now next lines lines' w (Err stop) p end opens adds ends = tt
+done_at_end laws line_laws c file before after old start now next lines lines' w (Ok d) p end opens adds ends =
+    goes_done laws line_laws c file before after old start now next lines lines' w p end opens adds (ends c (events_in most_lines 0 p.given) p.table p.counts p.prints p.no_rows p.no_notes)
+done_at_end laws line_laws c file before after old start now next lines lines' w (Err stop) p end opens adds ends = tt
 
 -- ---- faults of the whole run
 stays_caused : {T : Type 0} (before now next : ℕ) (r : Result T Stop) → now ≡ before → MatchResult r (λ _. next ≡ now) (CauseOfStop now next) → MatchResult r (λ _. next ≡ before) (CauseOfStop before next)

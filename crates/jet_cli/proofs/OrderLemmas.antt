@@ -13,14 +13,14 @@ use Rattle.jet_worker.specs.declared.stop.Spot.TheVariants.{Job, Part, Rows, Not
 use Rattle.jet_worker.specs.declared.stop.Stop.{Stop}
 use Rattle.jet_worker.specs.declared.stop.Stop.TheVariants.{BadLine, Outside, NoMemory}
 use Rattle.jet_worker.proofs.CallLaws.{call_named, no_calls, none_turn, opened_by-append, opened_by_turn}
-use Rattle.jet_cli.specs.CallOrder.{ReadsJob, StopNamed, check_place, job_place, most_text}
+use Rattle.jet_cli.specs.CallOrder.{AreBeforeEnd, ReadsJob, StopNamed, check_place, job_place, most_text}
 
 -- ---- the calls for a job file
 
 -- a job file was opened and had a turn, and then came the last
-pub reads_job : (name : List ℕ) (file : ℕ) (counts lengths : List ℕ) (last : List CallMade) → ArePieces counts → sum counts ≤ most_text → All ReadsOrWrites last → IsEnd last
+pub reads_job : (name : List ℕ) (file : ℕ) (counts lengths : List ℕ) (last : List CallMade) → ArePieces counts → sum counts ≤ most_text → AreBeforeEnd counts → All ReadsOrWrites last → IsEnd last
     → ReadsJob name (Opened name file ∷ (turn_calls (record { file = file; counts = counts; lengths = lengths }) ++ last))
-reads_job name file counts lengths last pieces few none end =
+reads_job name file counts lengths last pieces few live none end =
     let t : Turn = record { file = file; counts = counts; lengths = lengths } in
     record {
       order = record {
@@ -33,14 +33,15 @@ reads_job name file counts lengths last pieces few none end =
         order = refl;
         end = end;
       };
+      live = All-cons (λ (t : Turn). AreBeforeEnd t.counts) t [] live (All-nil (λ (t : Turn). AreBeforeEnd t.counts));
       few = All-cons (λ (t : Turn). sum t.counts ≤ most_text) t [] few (All-nil (λ (t : Turn). sum t.counts ≤ most_text));
     }
 
 -- it was opened and read
-pub reads_only : (name : List ℕ) (file : ℕ) (counts : List ℕ) → ArePieces counts → sum counts ≤ most_text → ReadsJob name (Opened name file ∷ map (Read file) counts)
-reads_only name file counts pieces few =
+pub reads_only : (name : List ℕ) (file : ℕ) (counts : List ℕ) → ArePieces counts → sum counts ≤ most_text → AreBeforeEnd counts → ReadsJob name (Opened name file ∷ map (Read file) counts)
+reads_only name file counts pieces few live =
     subst (λ (l : List CallMade). ReadsJob name (Opened name file ∷ l)) (append-nil (map (Read file) counts ++ []) ∙ append-nil (map (Read file) counts))
-    (reads_job name file counts [] [] pieces few (All-nil ReadsOrWrites) (inl refl))
+    (reads_job name file counts [] [] pieces few live (All-nil ReadsOrWrites) (inl refl))
 
 -- its opening failed, or wanted memory
 pub unopened : (name : List ℕ) (stop : Stop) (last : List CallMade) → LastOf call.Open Job (Opening name) stop last → ReadsJob name last
@@ -50,9 +51,10 @@ unopened name (Outside call spot) last h =
     subst (ReadsJob name) (sym h.2)
     (record {
       order = record { opens = (refl, refl); opened = []; turns = []; waiting = []; last = Missed (Opening name) ∷ []; calls_are = refl; order = refl; end = inr (Opening name, refl) };
+      live = All-nil (λ (t : Turn). AreBeforeEnd t.counts);
       few = All-nil (λ (t : Turn). sum t.counts ≤ most_text);
     })
-unopened name NoMemory last h = subst (ReadsJob name) (sym h) (record { order = no_calls (name ∷ []); few = All-nil (λ (t : Turn). sum t.counts ≤ most_text) })
+unopened name NoMemory last h = subst (ReadsJob name) (sym h) (record { order = no_calls (name ∷ []); live = All-nil (λ (t : Turn). AreBeforeEnd t.counts); few = All-nil (λ (t : Turn). sum t.counts ≤ most_text) })
 
 -- ---- which call a fault names
 

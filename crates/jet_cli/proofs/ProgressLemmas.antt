@@ -11,7 +11,7 @@ use Rattle.jet_lines.specs.Lines.{lines_of}
 use Rattle.jet_lines.specs.LinesValue.{LinesValue}
 use Rattle.jet_lines.specs.Readings.{event_line}
 use Rattle.jet_lines.specs.declared.cut.Cut.TheVariants as cut
-use Rattle.jet_lines.proofs.FileLemmas.{good_more, numbered_fits}
+use Rattle.jet_cli.specs.inner.LineLaws.{LineLaws}
 use Rattle.jet_file.specs.Outside.{Told, WhereTold}
 use Rattle.jet_file.specs.Text.{row_line, late_line}
 use Rattle.jet_cli.specs.Counting.{Counts, late_among, mark_after}
@@ -22,10 +22,8 @@ use Rattle.jet_cli.specs.Pacing.{HasPaced, base_late_of}
 use Rattle.jet_cli.specs.Words.{WindowCommand}
 use Rattle.jet_cli.proofs.PaceLemmas.{goes_paced_starts, goes_paced_takes, goes_paced_appends}
 use Rattle.jet_lines.specs.Feeds.{NoFeed}
-use Rattle.jet_lines.proofs.WholeLemmas.{given_all}
 use Rattle.jet_cli.specs.declared.counter.WindowCounter.{WindowCounter}
 use Rattle.jet_cli.proofs.KeptLemmas.{late_more}
-use Rattle.jet_lines.proofs.EntryLemmas.{event_place}
 use Rattle.jet_cli.proofs.RunLemmas.{goes_starts, goes_takes, goes_writes}
 
 late_if : (c : WindowCommand) (e : EventValue) (b : Bool) → flat_map (late_line (codes "w")) (if b then e ∷ [] else []) ≡ (if b then late_line (codes "w") e else [])
@@ -33,34 +31,34 @@ late_if c e true = append-nil (late_line (codes "w") e)
 late_if c e false = refl
 
 -- the late lines with those of one line more
-late_text_more : (c : WindowCommand) (events : List EventValue) (found : Option EventValue) (n : ℕ) (line : List ℕ) → event_line 0 n line ≡ Ok found → All (λ e. e.line < n) events
+late_text_more : (laws : LineLaws) (c : WindowCommand) (events : List EventValue) (found : Option EventValue) (n : ℕ) (line : List ℕ) → event_line 0 n line ≡ Ok found → All (λ e. e.line < n) events
     → base_late_text (late_among c (events ++ option_to_list found)) ≡ base_late_text (late_among c events) ++ late_of_line c events found
-late_text_more c events None n line read before =
+late_text_more laws c events None n line read before =
     ap (λ (es : List EventValue). base_late_text (late_among c es)) (append-nil events) ∙ sym (append-nil (base_late_text (late_among c events)))
-late_text_more c events (Some e) n line read before =
-    let at : e.line ≡ n = (event_place 0 n line e read).1 in
+late_text_more laws c events (Some e) n line read before =
+    let at : e.line ≡ n = laws.line 0 n line e read in
     ap base_late_text (late_more c events e (subst (λ (k : ℕ). All (λ (x : EventValue). x.line < k) events) (sym at) before))
     ∙ flat_map-append (late_line (codes "w")) (late_among c events) (if is_behind (pos c.lag) (pos c.slide) events e then e ∷ [] else [])
     ∙ ap (λ (l : List ℕ). base_late_text (late_among c events) ++ l) (late_if c e (is_behind (pos c.lag) (pos c.slide) events e))
 
 -- what a line holds stands on it
-found_before : (found : Option EventValue) (n : ℕ) (line : List ℕ) → event_line 0 n line ≡ Ok found → All (λ e. e.line < n + 1) (option_to_list found)
-found_before None n line read = All-nil (λ (e : EventValue). e.line < n + 1)
-found_before (Some e) n line read =
-    All-cons (λ (x : EventValue). x.line < n + 1) e [] (let at : e.line ≡ n = (event_place 0 n line e read).1 in omega (arith, at)) (All-nil (λ (x : EventValue). x.line < n + 1))
+found_before : (laws : LineLaws) (found : Option EventValue) (n : ℕ) (line : List ℕ) → event_line 0 n line ≡ Ok found → All (λ e. e.line < n + 1) (option_to_list found)
+found_before laws None n line read = All-nil (λ (e : EventValue). e.line < n + 1)
+found_before laws (Some e) n line read =
+    All-cons (λ (x : EventValue). x.line < n + 1) e [] (let at : e.line ≡ n = laws.line 0 n line e read in omega (arith, at)) (All-nil (λ (x : EventValue). x.line < n + 1))
 
 later : (n m a : ℕ) → a < n → n ≤ m → a < m
 later n m a h k = omega arith
 
-pub progress_line : (c : WindowCommand) (file : ℕ) (start now next : Option Told) (lines lines' : LinesValue) (w w' : WindowCounter) (n : ℕ)
+pub progress_line : (laws : LineLaws) (c : WindowCommand) (file : ℕ) (start now next : Option Told) (lines lines' : LinesValue) (w w' : WindowCounter) (n : ℕ)
     → (p : Progress c file start now lines w) → NextIs lines (cut.Line n) lines' → TookLine c (events_in most_lines 0 p.given) p.table n lines'.line now next w'
     → Progress c file start next lines' w'
-progress_line c file start now next lines lines' w w' n p next_is t =
+progress_line laws c file start now next lines lines' w w' n p next_is t =
     let events : List EventValue = events_in most_lines 0 p.given in
     let number : n ≡ length p.given + 1 = next_is.0 ∙ ap (λ (k : ℕ). k + 1) p.number in
     let room : length p.given < most_lines = omega (arith, next_is.1, p.most, number) in
     let read : event_line 0 (length p.given + 1) lines'.line ≡ Ok t.found = subst (λ (k : ℕ). event_line 0 k lines'.line ≡ Ok t.found) number t.read in
-    let more : GoOn (event_line 0) most_lines p.given lines'.line t.found = good_more (event_line 0) most_lines p.given lines'.line t.found p.good (numbered_fits (event_line 0) most_lines (length p.given) lines'.line room ∙ read) in
+    let more : GoOn (event_line 0) most_lines p.given lines'.line t.found = laws.more 0 most_lines p.given lines'.line t.found p.good room read in
     let given : List (List ℕ) = p.given ++ lines'.line ∷ [] in
     let longer : length given ≡ length p.given + 1 = length-append p.given (lines'.line ∷ []) in
     let ended : lines'.ended ≡ lines.ended = ap (λ (v : LinesValue). v.ended) next_is.4 in
@@ -68,10 +66,10 @@ progress_line c file start now next lines lines' w w' n p next_is t =
     let before2 : All (λ (e : EventValue). e.line < length given + 1) (events ++ option_to_list t.found) =
     All-append (λ (e : EventValue). e.line < length given + 1) events (option_to_list t.found)
     (All-weaker (λ (e : EventValue). e.line < n) (λ (e : EventValue). e.line < length given + 1) (λ e h. later n (length given + 1) e.line h (omega (arith, number, longer))) events before)
-    (All-weaker (λ (e : EventValue). e.line < n + 1) (λ (e : EventValue). e.line < length given + 1) (λ e h. later (n + 1) (length given + 1) e.line h (omega (arith, number, longer))) (option_to_list t.found) (found_before t.found n lines'.line t.read)) in
+    (All-weaker (λ (e : EventValue). e.line < n + 1) (λ (e : EventValue). e.line < length given + 1) (λ e h. later (n + 1) (length given + 1) e.line h (omega (arith, number, longer))) (option_to_list t.found) (found_before laws t.found n lines'.line t.read)) in
     let rows : base_rows_text c (p.table ++ t.more) ≡ base_rows_text c p.table ++ base_rows_text c t.more = flat_map-append (row_line (codes "w") (pos c.size)) p.table t.more in
     let notes : base_late_text (late_among c (events ++ option_to_list t.found)) ≡ base_late_text (late_among c events) ++ late_of_line c events t.found =
-    late_text_more c events t.found n lines'.line t.read before in
+    late_text_more laws c events t.found n lines'.line t.read before in
     let paced : WhereTold (HasPaced c file p.bytes (mark_after c (events ++ option_to_list t.found)) (p.table ++ t.more)) start next =
     goes_paced_appends c file p.bytes (mark_after c events) (mark_after c (events ++ option_to_list t.found)) p.table t.more (late_of_line c events t.found) start now next p.paced t.told t.closes in
     let told : WhereTold (HasRun c file p.bytes lines.ended (base_rows_text c p.table ++ base_rows_text c t.more) (base_late_text (late_among c events) ++ late_of_line c events t.found)) start next =
@@ -101,11 +99,11 @@ progress_line c file start now next lines lines' w w' n p next_is t =
 false_is : {P : Type 0} (b : Bool) → b ≡ false → b ≡ true → P
 false_is b f t = absurd (cc)
 
-progress_put : (c : WindowCommand) (file : ℕ) (start now next : Option Told) (lines lines' : LinesValue) (w : WindowCounter) (piece : List ℕ)
+progress_put : (laws : LineLaws) (c : WindowCommand) (file : ℕ) (start now next : Option Told) (lines lines' : LinesValue) (w : WindowCounter) (piece : List ℕ)
     → (p : Progress c file start now lines w) → lines.ended ≡ false → NoFeed lines.rest (length lines.rest) → lines'.rest ≡ lines.rest ++ piece → lines'.most ≡ lines.most → lines'.number ≡ lines.number
     → WhereTold (TakesPiece file lines lines') now next → Progress c file start next lines' w
-progress_put c file start now next lines lines' w piece p live none rest most number told =
-    let whole : whole_lines p.bytes ≡ p.given = given_all p.bytes lines.rest p.given (λ more. p.cut more (λ e. false_is lines.ended live e)) none in
+progress_put laws c file start now next lines lines' w piece p live none rest most number told =
+    let whole : whole_lines p.bytes ≡ p.given = laws.whole p.bytes lines.rest p.given (λ more. p.cut more (λ e. false_is lines.ended live e)) none in
     record {
       bytes = p.bytes ++ piece;
       given = p.given;
@@ -128,12 +126,12 @@ progress_put c file start now next lines lines' w piece p live none rest most nu
     }
 
 -- one piece more, or the end of the file
-pub progress_more : (c : WindowCommand) (file : ℕ) (start now next : Option Told) (lines lines' : LinesValue) (w : WindowCounter)
+pub progress_more : (laws : LineLaws) (c : WindowCommand) (file : ℕ) (start now next : Option Told) (lines lines' : LinesValue) (w : WindowCounter)
     → Progress c file start now lines w → lines.ended ≡ false → NoFeed lines.rest (length lines.rest) → PutsPiece lines lines' → WhereTold (TakesPiece file lines lines') now next → Progress c file start next lines' w
-progress_more c file start now next lines lines' w p live none (inl (piece, some, small, is)) told =
-    progress_put c file start now next lines lines' w piece p live none (ap (λ (v : LinesValue). v.rest) is) (ap (λ (v : LinesValue). v.most) is) (ap (λ (v : LinesValue). v.number) is) told
-progress_more c file start now next lines lines' w p live none (inr is) told =
-    progress_put c file start now next lines lines' w [] p live none (ap (λ (v : LinesValue). v.rest) is ∙ sym (append-nil lines.rest)) (ap (λ (v : LinesValue). v.most) is) (ap (λ (v : LinesValue). v.number) is) told
+progress_more laws c file start now next lines lines' w p live none (inl (piece, some, small, is)) told =
+    progress_put laws c file start now next lines lines' w piece p live none (ap (λ (v : LinesValue). v.rest) is) (ap (λ (v : LinesValue). v.most) is) (ap (λ (v : LinesValue). v.number) is) told
+progress_more laws c file start now next lines lines' w p live none (inr is) told =
+    progress_put laws c file start now next lines lines' w [] p live none (ap (λ (v : LinesValue). v.rest) is ∙ sym (append-nil lines.rest)) (ap (λ (v : LinesValue). v.most) is) (ap (λ (v : LinesValue). v.number) is) told
 
 -- nothing is read yet
 pub progress_starts : (c : WindowCommand) (file : ℕ) (start : Option Told) (lines : LinesValue) (w : WindowCounter)

@@ -7,7 +7,7 @@ use Rattle.jet_file.specs.Outside.{Told, CallMade, Opened, OpensFile, Read, Trie
 use Rattle.jet_file.specs.Pace.{taken_by, wrote_by}
 use Rattle.jet_file.specs.declared.outside.Out.{Out}
 use Rattle.jet_file.specs.declared.outside.Out.TheVariants.{Rows, Notes}
-use Rattle.jet_file.proofs.ReadLemmas.{opened_rest}
+use Rattle.jet_cli.specs.inner.FileLaws.{FileLaws}
 use Rattle.jet_worker.specs.Calls.{ReadsOrWrites, opened_by}
 use Rattle.jet_worker.specs.Stopping.{LastIs, LastOf}
 use Rattle.jet_worker.specs.declared.stop.Call.{Call}
@@ -132,10 +132,10 @@ opened_no_read : (name : List ℕ) (number file : ℕ) → Opened name number �
 opened_no_read name number file same = cc
 
 -- behind the opening
-pub ready_opened : (c : WindowCommand) (file : ℕ) (old start : Told) (calls : List CallMade) → OpensFile c.file file old start → ReadsReady c (rest_of start file) file calls → ReadsOn c old (Opened c.file file ∷ calls)
-ready_opened c file old start calls opens h = λ content other is opened.
+pub ready_opened : (laws : FileLaws) (c : WindowCommand) (file : ℕ) (old start : Told) (calls : List CallMade) → OpensFile c.file file old start → ReadsReady c (rest_of start file) file calls → ReadsOn c old (Opened c.file file ∷ calls)
+ready_opened laws c file old start calls opens h = λ content other is opened.
     subst (λ (f : ℕ). ReadsReady c content f (Opened c.file file ∷ calls)) (same_head file other (opened_by calls) [] opened)
-    (λ before after n e. behind content (opened_rest c.file content file old start is opens) before after n e)
+    (λ before after n e. behind content (laws.opened c.file content file old start is opens) before after n e)
   where
     behind : (content : List ℕ) → rest_of start file ≡ content → (before after : List CallMade) (n : ℕ) → Opened c.file file ∷ calls ≡ before ++ Read file n ∷ after → IsReady c content file before
     behind content whole [] after n e = absurd (cc e)

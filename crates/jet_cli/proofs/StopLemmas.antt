@@ -9,10 +9,9 @@ use Rattle.jet_lines.specs.Readings.{event_line}
 use Rattle.jet_lines.specs.declared.cut.Cut.TheVariants as cut
 use Rattle.jet_lines.specs.declared.fault.LineFault.{LineFault}
 use Rattle.jet_lines.specs.declared.fault.LineFault.TheVariants as fault
-use Rattle.jet_lines.proofs.EntryLemmas.{long_event}
-use Rattle.jet_lines.proofs.FileLemmas.{bad_next, numbered_fits, numbered_over}
 use Rattle.jet_file.specs.Outside.{Told, WhereTold, Opened, Opening, OpensFile, Tried, rest_of}
-use Rattle.jet_file.proofs.ReadLemmas.{opened_rest}
+use Rattle.jet_cli.specs.inner.FileLaws.{FileLaws}
+use Rattle.jet_cli.specs.inner.LineLaws.{LineLaws}
 use Rattle.jet_cli.specs.LineStops.{IsBadIn, IsBadLineAt, IsBadOf, IsWrote, RunStops, StepStops}
 use Rattle.jet_cli.specs.inner.Progress.{HasRun, Progress}
 use Rattle.jet_worker.specs.Calls.{Calling, ReadsOrWrites, OpensInOrder, part_place}
@@ -40,10 +39,10 @@ bad_of c content told (BadLine part n why) is h =
 bad_of c content told (Outside call spot) is h = tt
 bad_of c content told NoMemory is h = tt
 
-run_stops : (c : WindowCommand) (file : ℕ) (bytes : List ℕ) (ended : Bool) (rows notes : List ℕ) (stop : Stop) (old start now next : Told)
+run_stops : (laws : FileLaws) (c : WindowCommand) (file : ℕ) (bytes : List ℕ) (ended : Bool) (rows notes : List ℕ) (stop : Stop) (old start now next : Told)
     → ((content more : List ℕ) → content ≡ bytes ++ more → MayCome ended more → IsBadIn content stop)
     → OpensFile c.file file old start → HasRun c file bytes ended rows notes start now → StepStops (IsCallIn (Part 0) file) stop now next → Calling (RunStops c stop) old next
-run_stops c file bytes ended rows notes stop old start now next bad opens run stops =
+run_stops laws c file bytes ended rows notes stop old start now next bad opens run stops =
     let such : Call → Spot → Tried → Type 0 = IsCallIn (Part 0) file in
     let calls : List CallMade = run.calls ++ stops.calls in
     let found = some_of (old.content c.file) opens.there in
@@ -54,10 +53,10 @@ run_stops c file bytes ended rows notes stop old start now next bad opens run st
           ∙ append_assoc (old.trace ++ Opened c.file file ∷ []) calls stops.last ∙ append_assoc old.trace (Opened c.file file ∷ []) (calls ++ stops.last);
       did = record {
         opens = (refl, All-append ReadsOrWrites calls stops.last (All-append ReadsOrWrites run.calls stops.calls run.quiet (All-weaker IsWrote ReadsOrWrites wrote_quiet stops.calls stops.wrote)) (none_last such stop stops.last (none_in (Part 0) file) stops.fails));
-        ready = ready_opened c file old start (calls ++ stops.last) opens
+        ready = ready_opened laws c file old start (calls ++ stops.last) opens
             (ready_more c (rest_of start file) file calls stops.last (ready_more c (rest_of start file) file run.calls stops.calls run.ready (wrote_none stops.calls stops.wrote)) (last_none such stop stops.last stops.fails));
         fails = named_after part_place (Part 0) c.file file calls stop stops.last refl stops.fails;
-        bad = bad_of c found.0 old stop found.1 (bad found.0 (rest_of now file) (sym (opened_rest c.file found.0 file old start found.1 opens) ∙ run.rest) run.end);
+        bad = bad_of c found.0 old stop found.1 (bad found.0 (rest_of now file) (sym (laws.opened c.file found.0 file old start found.1 opens) ∙ run.rest) run.end);
       };
     }
 
@@ -83,17 +82,17 @@ goes_unopened c stop old now never = goes_weaker (FailsAt Open (Part 0) (Opening
     none_bad told (Outside call spot) h = tt
     none_bad told NoMemory h = tt
 
-pub goes_run_stops : (c : WindowCommand) (file : ℕ) (bytes : List ℕ) (ended : Bool) (rows notes : List ℕ) (stop : Stop) (old start now next : Option Told)
+pub goes_run_stops : (laws : FileLaws) (c : WindowCommand) (file : ℕ) (bytes : List ℕ) (ended : Bool) (rows notes : List ℕ) (stop : Stop) (old start now next : Option Told)
     → ((content more : List ℕ) → content ≡ bytes ++ more → MayCome ended more → IsBadIn content stop)
     → WhereTold (OpensFile c.file file) old start → WhereTold (HasRun c file bytes ended rows notes) start now → WhereTold (StepStops (IsCallIn (Part 0) file) stop) now next → WhereTold (Calling (RunStops c stop)) old next
-goes_run_stops c file bytes ended rows notes stop None start now next bad o r s = tt
-goes_run_stops c file bytes ended rows notes stop (Some old) None now next bad o r s = absurd o
-goes_run_stops c file bytes ended rows notes stop (Some old) (Some start) None next bad o r s = absurd r
-goes_run_stops c file bytes ended rows notes stop (Some old) (Some start) (Some now) None bad o r s = absurd s
-goes_run_stops c file bytes ended rows notes stop (Some old) (Some start) (Some now) (Some next) bad o r s = run_stops c file bytes ended rows notes stop old start now next bad o r s
+goes_run_stops laws c file bytes ended rows notes stop None start now next bad o r s = tt
+goes_run_stops laws c file bytes ended rows notes stop (Some old) None now next bad o r s = absurd o
+goes_run_stops laws c file bytes ended rows notes stop (Some old) (Some start) None next bad o r s = absurd r
+goes_run_stops laws c file bytes ended rows notes stop (Some old) (Some start) (Some now) None bad o r s = absurd s
+goes_run_stops laws c file bytes ended rows notes stop (Some old) (Some start) (Some now) (Some next) bad o r s = run_stops laws c file bytes ended rows notes stop old start now next bad o r s
 
 -- ---- which line is the first bad one
-module _ (c : WindowCommand) (file : ℕ) (start now : Option Told) (lines : LinesValue) (w : WindowCounter) (p : Progress c file start now lines w) where
+module _ (laws : LineLaws) (c : WindowCommand) (file : ℕ) (start now : Option Told) (lines : LinesValue) (w : WindowCounter) (p : Progress c file start now lines w) where
   bad_at : (content more : List ℕ) (line : List ℕ) (others : List (List ℕ)) (f : LineFault) (part n : ℕ) → content ≡ p.bytes ++ more → MayCome lines.ended more
       → lines_of (lines.rest ++ more) ≡ line ∷ others → part ≡ 0 → n ≡ lines.number + 1
       → ((length p.given < most_lines) × (event_line 0 (length p.given + 1) line ≡ Err f)) ⊎ ((most_lines ≤ length p.given) × (f ≡ fault.TooMany))
@@ -103,8 +102,8 @@ module _ (c : WindowCommand) (file : ℕ) (start now : Option Told) (lines : Lin
       let number : n ≡ length p.given + 1 = n_is ∙ ap (λ (k : ℕ). k + 1) p.number in (
         part_is,
         elim how [
-          | inl h ↦ (bad_next (event_line 0) most_lines content p.given line others f p.good parts (numbered_fits (event_line 0) most_lines (length p.given) line h.0 ∙ h.1)).0 ∙ ap (λ (k : ℕ). Some (k, f)) (sym number)
-          | inr h ↦ (bad_next (event_line 0) most_lines content p.given line others f p.good parts (numbered_over (event_line 0) most_lines (length p.given) line h.0 ∙ ap Err (sym h.1))).0 ∙ ap (λ (k : ℕ). Some (k, f)) (sym number)
+          | inl h ↦ (laws.bad 0 most_lines content p.given line others f p.good parts h.0 h.1).0 ∙ ap (λ (k : ℕ). Some (k, f)) (sym number)
+          | inr h ↦ (laws.many 0 most_lines content p.given line others p.good parts h.0).0 ∙ ap (λ (g : LineFault). Some (length p.given + 1, g)) (sym h.1) ∙ ap (λ (k : ℕ). Some (k, f)) (sym number)
         ],
       )
 
@@ -113,7 +112,7 @@ module _ (c : WindowCommand) (file : ℕ) (start now : Option Told) (lines : Lin
   bad_cut n part fault.TooLong lines' part_is h content more is may =
       let found = h.2 more may in
       let room : length p.given < most_lines = omega (arith, h.0, h.1, p.most, p.number) in
-      bad_at content more found.0 found.1 fault.TooLong part n is may found.2 part_is h.0 (inl (room, long_event 0 (length p.given + 1) found.0 found.3))
+      bad_at content more found.0 found.1 fault.TooLong part n is may found.2 part_is h.0 (inl (room, laws.long 0 (length p.given + 1) found.0 found.3))
   bad_cut n part fault.TooMany lines' part_is h content more is may =
       let found = h.2 more may in
       let full : most_lines ≤ length p.given = omega (arith, h.0, h.1, p.most, p.number) in

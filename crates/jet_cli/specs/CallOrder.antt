@@ -1,5 +1,5 @@
 -- The calls of a command on the outside, however it ends, and which of them a fault names.
-use Rattle.std.specs.Prelude.{◌≡◌, ◌⊎◌, ⊤, ℕ, ◌+◌, ◌≤◌, List, [], ◌∷◌, ◌++◌, map, sum, All, Option, Some, None}
+use Rattle.std.specs.Prelude.{◌≡◌, ◌⊎◌, ⊤, ℕ, ◌+◌, ◌<◌, ◌≤◌, List, [], ◌∷◌, ◌++◌, map, sum, All, Option, Some, None}
 use Rattle.jet_file.specs.Outside.{CallMade, Told}
 use Rattle.jet_flow.specs.DataFiles.{file_name}
 use Rattle.jet_worker.specs.Calls.{EndsFailed, OpensInOrder, ReadsInOrder, part_place}
@@ -35,9 +35,14 @@ place_in (WindowOf c) = part_place
 place_in (PlanOf c) = job_place
 place_in (CheckOf c) = check_place
 
--- the job file is opened and read, and no more bytes are taken of it than one too many
+-- before each of these reads of a file, none had found its end
+abbrev pub AreBeforeEnd : List ℕ → Type 0
+AreBeforeEnd counts = (front back : List ℕ) (n : ℕ) → counts ≡ front ++ n ∷ back → All (λ m. 0 < m) front
+
+-- the job file is opened and read, not behind its end, and no more bytes are taken of it than one too many
 pub record ReadsJob (name : List ℕ) (calls : List CallMade) : Type 0 where
   pub order : ReadsInOrder (name ∷ []) calls
+  pub live : All (λ t. AreBeforeEnd t.counts) order.turns
   pub few : All (λ t. sum t.counts ≤ most_text) order.turns
 
 -- first the calls for the job file, and then those for the data files of its job; the line of a file was written before

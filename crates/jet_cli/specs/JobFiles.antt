@@ -6,7 +6,7 @@ use Rattle.jet_job.specs.declared.job_text.JobText.{JobText}
 use Rattle.jet_plan.specs.declared.plan.Plan.{Plan}
 use Rattle.jet_worker.specs.declared.stop.Stop.{Stop}
 use Rattle.jet_worker.specs.Calls.{ArePieces}
-use Rattle.jet_cli.specs.CallOrder.{ReadsJob, StopNamed, job_place, most_text}
+use Rattle.jet_cli.specs.CallOrder.{AreBeforeEnd, ReadsJob, StopNamed, job_place, most_text}
 use Rattle.jet_cli.specs.JobWords.{JobCommand}
 use Rattle.jet_cli.specs.Refusals.{text_refusal, with_options}
 use Rattle.jet_cli.specs.declared.halt.Halt.{Halt}
@@ -25,6 +25,7 @@ pub record ReadsJobFile (name text : List ℕ) (before now : ℕ → Bool) (old 
   pub written : new.written ≡ old.written
   pub counts : List ℕ
   pub pieces : ArePieces counts
+  pub live : AreBeforeEnd counts
   pub few : sum counts ≤ most_text
   pub trace : new.trace ≡ old.trace ++ (Opened name file ∷ map (Read file) counts)
 
@@ -44,6 +45,7 @@ pub record ReadsPlan (c : JobCommand) (plan : Plan) (before now : ℕ → Bool) 
   pub written : new.written ≡ old.written
   pub counts : List ℕ
   pub pieces : ArePieces counts
+  pub live : AreBeforeEnd counts
   pub few : sum counts ≤ most_text
   pub trace : new.trace ≡ old.trace ++ (Opened c.job file ∷ map (Read file) counts)
 

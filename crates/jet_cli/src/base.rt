@@ -16,6 +16,7 @@ ghost use Rattle.jet_cli.specs.inner.Took.{IsInStep, Prints};
 ghost use Rattle.jet_cli.specs.Words.{WindowCommand};
 
 use crate::counter::WindowCounter;
+use crate::lower_laws::{laws_of_files, laws_of_lines};
 use crate::{Spot, Stop, WindowWords};
 use jet_file::Outside;
 use jet_items::Refused;
@@ -42,6 +43,7 @@ fn take_line<O: Outside>(
     ensures stop { IfErr result (LineStop number line.now (O.told out.old) (O.told out.new)) }
     ensures outcome { Outcome O.opened O.steady O.faults out.old out.new result }
 {
+    laws_of_lines();
     match read_event(alloc, line, 0, number) {
         Ok(Some(event)) => match counter.take(alloc, event) {
             Ok(()) => counter.write(out),
@@ -88,6 +90,8 @@ pub(crate) fn run_window<O: Outside>(
     ensures works { O.steady out.old ≡ true → IfErr result (λ stop. IsForOutside stop → LacksFile words.now.file.now (O.told out.old)) }
     ensures outcome { OpenOutcome O.steady O.faults out.old out.new result }
 {
+    laws_of_files();
+    laws_of_lines();
     let file = open_data(out, Spot::Part(0), words.file)?;
     let mut lines = Lines::new(alloc, MOST_LINES);
     let mut counter = WindowCounter::new(alloc, policy, words.lag as i64);

@@ -19,9 +19,10 @@ use crate::halt::Halt;
 use crate::job_file::read_plan;
 use crate::{Command, JobWords, Status, Stop, WindowWords};
 use jet_file::{Out, Outside};
+use jet_laws::none_is_behind;
 use jet_plan::{Settings, check, print_plan};
 use jet_policy::WinPolicy;
-use jet_worker::{check_files, write_text};
+use jet_worker::{a_valid_job_allows_lines, check_files, write_text};
 use std::alloc::Global;
 
 /// Does what a command says, and answers how that ended.
@@ -29,6 +30,7 @@ pub(crate) fn run_command<O: Outside>(alloc: Global, command: &Command<'_>, out:
     requires small { IsSmall command.now }
     ensures { Meets O.told O.opened O.steady O.faults (command_in command.now) out.old out.new result }
 {
+    none_is_behind();
     match command {
         Command::Window(words) => status_of(run_base(alloc, words, out)),
         Command::Plan(words) => status_of(run_plan(alloc, words, out)),
@@ -92,6 +94,7 @@ fn run_check<O: Outside>(alloc: Global, words: &JobWords<'_>, out: &mut O) -> Re
     ensures outcome { HaltOutcome O.steady O.faults out.old out.new result }
     ensures works { O.steady out.old ≡ true → IfErr result (λ halt. IsOutsideHalt halt → LacksFiles (job_read words.now) (O.told out.old)) }
 {
+    a_valid_job_allows_lines();
     let plan = read_plan(alloc, words, out)?;
     check_files(alloc, &plan, out)?;
     Ok(())

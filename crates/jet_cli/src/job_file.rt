@@ -10,6 +10,7 @@ ghost use Rattle.jet_cli.specs.JobFiles.{ReadHalts, ReadsJobFile, ReadsPlan, Sto
 ghost use Rattle.jet_cli.specs.WordsView.{job_read};
 
 use crate::halt::Halt;
+use crate::lower_laws::laws_of_files;
 use crate::options::with_options;
 use crate::read_text::read_text;
 use crate::{JobWords, Spot, Stop};
@@ -31,6 +32,7 @@ fn job_text<O: Outside>(alloc: Global, name: &[u8], out: &mut O) -> Result<Vec<u
     ensures early { IfErr result (λ stop. IsEarly (Stopped stop)) }
     ensures no_bad_line { IfErr result IsNoBadLine }
 {
+    laws_of_files();
     let file = open_data(out, Spot::Job, name)?;
     read_text(alloc, out, Spot::Job, file, MOST_TEXT)
 }

@@ -17,6 +17,7 @@ mod halt;
 mod job_file;
 mod job_words;
 mod laws;
+mod lower_laws;
 mod options;
 mod parts;
 mod print;

@@ -5,6 +5,7 @@ ghost use Rattle.jet_cli.specs.inner.TextReading.{ReadsFront, StopsReading};
 ghost use Rattle.jet_worker.specs.Stopping.{IsNoBadLine, IsOfCall, Outcome};
 ghost use Rattle.jet_worker.specs.declared.stop.Call.TheVariants.{Read};
 
+use crate::lower_laws::laws_of_files;
 use crate::{Spot, Stop};
 use jet_file::{FileNo, Outside};
 use jet_worker::read_bytes;
@@ -25,6 +26,7 @@ pub(crate) fn read_text<O: Outside>(
     ensures call { IfErr result (IsOfCall Read spot) }
     ensures no_bad_line { IfErr result IsNoBadLine }
 {
+    laws_of_files();
     let mut text = Vec::new(alloc);
     let mut buf = [0; 4096];
     'pieces: while text.len() < most {

@@ -1,6 +1,6 @@
 -- What the steps of a run do to the outside.
 use Rattle.std.proofs.Common.{◌≡◌, ℕ, ◌+◌, ◌<◌, ◌≤◌, List, [], ◌∷◌, ◌++◌, length, take, drop, true, false, Option, arith, ap, sym, ◌∙◌, subst, length-take-le, Err, append-nil, map, refl, take-append-drop, inl, inr}
-use Rattle.jet_file.specs.Outside.{Told, CallMade, Place, Missed, Tried, Reading, Writing, Read, Wrote, WhereTold, ReadsFile, Stays, rest_of}
+use Rattle.jet_file.specs.Outside.{Told, CallMade, Place, Missed, Tried, Writing, Read, Wrote, WhereTold, ReadsFile, Stays, rest_of}
 use Rattle.jet_file.specs.declared.outside.Out.{Out}
 use Rattle.jet_file.specs.declared.outside.Out.TheVariants as out
 use Rattle.jet_file.specs.declared.outside.OutFault.{OutFault}
@@ -9,16 +9,15 @@ use Rattle.jet_file.specs.Writing.{HasWritten, WritesFront, missed}
 use Rattle.jet_lines.specs.LinesValue.{LinesValue}
 use Rattle.jet_worker.specs.Feeding.{Appends, FailsAt, Flushes, PutsPiece, TakesPiece, WritesText}
 use Rattle.jet_worker.specs.Calls.{most_piece}
-use Rattle.jet_worker.specs.Stopping.{IsCallIn, IsWriting, LastIs, LastOf}
+use Rattle.jet_worker.specs.Stopping.{LastOf}
 use Rattle.jet_worker.specs.inner.Stopped.{stop_of, spot_of}
 use Rattle.jet_worker.specs.declared.stop.Call.{Call}
 use Rattle.jet_worker.specs.declared.stop.Call.TheVariants as call
 use Rattle.jet_worker.specs.declared.stop.Spot.{Spot}
 use Rattle.jet_worker.specs.declared.stop.Stop.{Stop}
-use Rattle.jet_worker.specs.declared.stop.Stop.TheVariants.{BadLine, Outside, NoMemory}
+use Rattle.jet_worker.specs.declared.stop.Stop.TheVariants.{NoMemory}
 use Rattle.jet_file.proofs.GoesLaws.{goes_same, goes_then, goes_weaker}
-use Rattle.jet_file.proofs.ReadLemmas.{rest_next}
-use Rattle.jet_worker.proofs.CallLaws.{read_last, write_last}
+use Rattle.jet_worker.proofs.CallLaws.{write_last}
 
 -- ---- openings and reads
 
@@ -39,9 +38,13 @@ goes_call_fails call spot tried f stop old now is =
 pub goes_uncalled : (call : Call) (spot : Spot) (tried : Tried) (old : Option Told) → WhereTold (FailsAt call spot tried NoMemory) old old
 goes_uncalled call spot tried = goes_same (FailsAt call spot tried NoMemory) (λ a. call_fails call spot tried fault.NoMemory a a refl)
 
-takes_piece : (file : ℕ) (buffer : List ℕ) (n : ℕ) (before after : LinesValue) (a b : Told) → 0 < n → n ≤ length buffer → length buffer ≤ most_piece → before.ended ≡ false
+-- what a law of files says a read leaves
+abbrev pub LeavesRest : Type 0
+LeavesRest = (file : ℕ) (buffer : List ℕ) (n : ℕ) (now next : Told) → ReadsFile file buffer n now next → rest_of next file ≡ drop n (rest_of now file)
+
+takes_piece : (leaves : LeavesRest) (file : ℕ) (buffer : List ℕ) (n : ℕ) (before after : LinesValue) (a b : Told) → 0 < n → n ≤ length buffer → length buffer ≤ most_piece → before.ended ≡ false
     → after ≡ record before { rest = before.rest ++ take n buffer; held = after.held } → ReadsFile file buffer n a b → TakesPiece file before after a b
-takes_piece file buffer n before after a b more fits most live is r =
+takes_piece leaves file buffer n before after a b more fits most live is r =
     let len : length (take n buffer) ≡ n = length-take-le n buffer fits in
     let live_still : after.ended ≡ false = ap (λ (v : LinesValue). v.ended) is ∙ live in
     record {
@@ -51,7 +54,7 @@ takes_piece file buffer n before after a b more fits most live is r =
       some = λ h. omega (arith, len, more);
       end = λ h. absurd (true_not_false (sym h ∙ live_still));
       rest = sym (take-append-drop n (rest_of a file)) ∙ ap (λ (s : List ℕ). s ++ drop n (rest_of a file)) (sym r.bytes)
-          ∙ ap (λ (s : List ℕ). take n buffer ++ s) (sym (rest_next file buffer n a b r));
+          ∙ ap (λ (s : List ℕ). take n buffer ++ s) (sym (leaves file buffer n a b r));
       content = r.content;
       written = r.written;
       name = ap (λ (p : Place). p.name) r.place;
@@ -82,10 +85,10 @@ puts_end before mid after made ends =
     inr (ends ∙ ap (λ (v : LinesValue). let w : LinesValue = record v { ended = true } in w) made
     ∙ ap (λ (n : ℕ). let w : LinesValue = record before { ended = true; held = n } in w) (sym (ap (λ (v : LinesValue). v.held) ends)))
 
-pub goes_piece : (file : ℕ) (buffer : List ℕ) (n : ℕ) (before after : LinesValue) (old now : Option Told) → 0 < n → n ≤ length buffer → length buffer ≤ most_piece → before.ended ≡ false
+pub goes_piece : (leaves : LeavesRest) (file : ℕ) (buffer : List ℕ) (n : ℕ) (before after : LinesValue) (old now : Option Told) → 0 < n → n ≤ length buffer → length buffer ≤ most_piece → before.ended ≡ false
     → after ≡ record before { rest = before.rest ++ take n buffer; held = after.held } → WhereTold (ReadsFile file buffer n) old now → WhereTold (TakesPiece file before after) old now
-goes_piece file buffer n before after old now more fits most live is =
-    goes_weaker (ReadsFile file buffer n) (TakesPiece file before after) (λ a b r. takes_piece file buffer n before after a b more fits most live is r) old now
+goes_piece leaves file buffer n before after old now more fits most live is =
+    goes_weaker (ReadsFile file buffer n) (TakesPiece file before after) (λ a b r. takes_piece leaves file buffer n before after a b more fits most live is r) old now
 
 -- ---- writes
 

@@ -1,22 +1,21 @@
 -- That the calls of a check come in their order.
-use Rattle.std.proofs.Common.{◌≡◌, ℕ, zero, suc, ◌+◌, ◌<◌, ◌≤◌, List, [], ◌∷◌, ◌++◌, map, length, take, drop, get_or, All, Option, Some, None, refl, sym, ap, ◌∙◌, subst, inl, arith, append-nil, append_assoc, length-take-le}
+use Rattle.std.proofs.Common.{◌≡◌, ℕ, zero, suc, ◌+◌, ◌<◌, ◌≤◌, List, [], ◌∷◌, ◌++◌, map, length, take, drop, get_or, All, Option, Some, None, refl, sym, ap, ◌∙◌, subst, arith, append-nil, append_assoc, length-take-le}
 use Rattle.std.specs.Prelude.{IsSomeAnd, flat_map, slice_get}
 use Rattle.std.specs.List.{enumerate_from}
 use Rattle.std.proofs.lemmas.List.{length-map}
-use Rattle.std.proofs.lemmas.List.Elements.{All-append, All-nil}
+use Rattle.std.proofs.lemmas.List.Elements.{All-append}
 use Rattle.std.proofs.lemmas.List.FromFn.{length-enumerate_from}
-use Rattle.jet_file.specs.Outside.{CallMade, Missed, Tried, Opening, Reading, Writing}
-use Rattle.jet_file.specs.declared.outside.Out.TheVariants as out
+use Rattle.jet_file.specs.Outside.{CallMade, Missed, Tried, Opening}
 use Rattle.jet_flow.specs.DataFiles.{DataFile, file_name}
 use Rattle.jet_worker.specs.Calls.{IsCallOf, IsEnd, ReadsOrWrites, OpensInOrder, ReadsInOrder, Turn, opened_by, opening_call, part_place, turn_calls}
 use Rattle.jet_worker.specs.CheckText.{Checks}
 use Rattle.jet_worker.specs.Checked.{names_of, numbered}
 use Rattle.jet_worker.specs.inner.Opening.{IsNextOpening, Opened, opening_of, pair_of}
-use Rattle.jet_worker.specs.Stopping.{IsCallIn, LastIs}
+use Rattle.jet_worker.specs.Stopping.{LastIs}
 use Rattle.jet_worker.specs.declared.stop.Call.{Call}
-use Rattle.jet_worker.specs.declared.stop.Call.TheVariants.{Open, Read, Write}
+use Rattle.jet_worker.specs.declared.stop.Call.TheVariants.{Open}
 use Rattle.jet_worker.specs.declared.stop.Spot.{Spot}
-use Rattle.jet_worker.specs.declared.stop.Spot.TheVariants.{Job, Part, Rows, Notes}
+use Rattle.jet_worker.specs.declared.stop.Spot.TheVariants.{Part}
 use Rattle.jet_worker.specs.declared.stop.Stop.{Stop}
 use Rattle.jet_worker.specs.declared.stop.Stop.TheVariants.{BadLine, Outside, NoMemory}
 use Rattle.jet_worker.proofs.CallLaws.{HasPieces, ends_last, none_turns, opened_by_openings, opens_none, opens_then}

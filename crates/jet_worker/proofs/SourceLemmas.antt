@@ -1,11 +1,9 @@
 -- The lines of a source file, read one after another.
-use Rattle.std.proofs.Common.{◌≡◌, ℕ, ◌+◌, ◌<◌, ◌≤◌, Bool, true, false, ℤ, List, [], ◌∷◌, ◌++◌, map, length, nat_lt, Option, Some, None, Result, Ok, All, refl, sym, ap, ◌∙◌, subst, arith, append-nil, length-append}
-use Rattle.std.specs.Prelude.{count_by, cond, filter, int_lt, if◌then◌else◌}
-use Rattle.std.specs.Option.{option_map_or}
-use Rattle.std.proofs.lemmas.Bool.Decides.{nat_tests}
+use Rattle.std.proofs.Common.{◌≡◌, ℕ, ◌+◌, ◌<◌, ◌≤◌, Bool, true, false, ℤ, List, [], ◌∷◌, ◌++◌, map, length, Option, Some, None, Result, Ok, All, refl, sym, ap, ◌∙◌, subst, arith, append-nil, length-append}
+use Rattle.std.specs.Prelude.{count_by, cond, if◌then◌else◌}
 use Rattle.std.proofs.lemmas.List.{map-append}
-use Rattle.std.proofs.lemmas.List.Elements.{filter-append, All-head, All-tail, All-weaker, All-append, All-nil, All-cons}
-use Rattle.jet_items.specs.Marks.{is_behind, mark_at, mark_of, times_before}
+use Rattle.std.proofs.lemmas.List.Elements.{All-head, All-tail, All-weaker, All-append, All-nil, All-cons}
+use Rattle.jet_items.specs.Marks.{is_behind, mark_at, mark_of}
 use Rattle.jet_items.specs.Values.{EventValue}
 use Rattle.jet_policy.specs.MarkerValue.{MarkerValue, HasSeen}
 use Rattle.jet_lines.specs.Files.{GoOn, are_good, events_in}

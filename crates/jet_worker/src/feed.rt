@@ -6,7 +6,7 @@ ghost use Rattle.jet_worker.specs.Stopping.{IsForOutside, IsNoBadLine, IsOfCall,
 ghost use Rattle.jet_worker.specs.inner.Stopped.{stop_of, spot_of};
 
 use crate::{Call, Spot, Stop};
-use jet_file::{FileNo, Out, OutFault, Outside, write_all};
+use jet_file::{FileNo, Out, OutFault, Outside, what_is_left_of_a_file, write_all};
 use jet_lines::Lines;
 
 /// Opens the file of this name, which is read for `spot`.
@@ -66,6 +66,7 @@ pub fn read_piece<O: Outside>(
     ensures outcome { Outcome O.opened O.steady O.faults out.old out.new result }
     ensures no_bad_line { IfErr result IsNoBadLine }
 {
+    what_is_left_of_a_file();
     if lines.reserve(MOST_PIECE).is_err() {
         return Err(Stop::NoMemory);
     }

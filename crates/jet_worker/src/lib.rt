@@ -18,6 +18,7 @@ mod tally;
 
 pub use check::check_files;
 pub use feed::{open_data, read_bytes, read_piece, write_text, write_texts};
+pub use laws::a_valid_job_allows_lines;
 pub use stop::{Call, Spot, Stop};
 
 #[cfg(test)]

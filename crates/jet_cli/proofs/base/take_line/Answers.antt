@@ -3,7 +3,6 @@ use Rattle.jet_items.specs.Values.{EventValue}
 use Rattle.jet_lines.specs.Readings.{event_line}
 use Rattle.jet_cli.specs.inner.Progress.{TookLine}
 use Rattle.jet_worker.specs.declared.stop.Stop.{Stop}
-use Rattle.jet_lines.proofs.EntryLemmas.{event_place}
 use Rattle.jet_cli.proofs.LineLemmas.{wrote_event, write_stops, wrote_nothing, on_ok_from}
 use Rattle.jet_cli.proofs.base.take_line.Goals as goal
 
@@ -14,7 +13,7 @@ returns-in-Ok-clause-took g c = on_ok_from c.write.result (λ d is command event
     let new = c.write.new.self in
     let e : EventValue = c.in-Ok-Some.event in
     let read : event_line 0 c.args.number c.args.line.now ≡ Ok (Some e) = rw c.in-Ok-Some.field-0-is at c.in-Ok-Some.ensures in
-    let line : e.line ≡ c.args.number = (event_place 0 c.args.number c.args.line.now e read).1 in
+    let line : e.line ≡ c.args.number = c.laws_of_lines.ensures.line 0 c.args.number c.args.line.now e read in
     let before_e : All (λ (x : EventValue). x.line < e.line) events = subst (λ (n : ℕ). All (λ (x : EventValue). x.line < n) events) (sym line) before in
     subst (λ (r : Result (Unit {0}) Stop). OnOk r (TookLine command events table c.args.number c.args.line.now (g.O.Outside.told c.args.out.now) (g.O.Outside.told c.write.new.out) new)) is
     (wrote_event command events e table c.args.number c.args.line.now (g.O.Outside.told c.args.out.now) (g.O.Outside.told c.write.new.out) old mid new

@@ -12,7 +12,7 @@ returns-in_err-plan-clause-halt g c =
 pub returns-in_err-check_files-clause-halt : goal.returns-in_err-check_files-clause-halt
 returns-in_err-check_files-clause-halt g c =
     let p = err_from_is_err_and c.from_residual-in_err-check_files.result c.from_residual-in_err-check_files.ensures.1 in
-    rw (p.1, p.2) (goes_check_stops (job_read c.args.words.now) c.in_ok-plan.plan c.in_err-check_files.field-0.0 (g.O.Outside.opened c.args.out.now) (g.O.Outside.opened c.read_plan.new.out) c.in_ok-plan.ensures.valid
+    rw (p.1, p.2) (goes_check_stops c.a_valid_job_allows_lines.ensures (job_read c.args.words.now) c.in_ok-plan.plan c.in_err-check_files.field-0.0 (g.O.Outside.opened c.args.out.now) (g.O.Outside.opened c.read_plan.new.out) c.in_ok-plan.ensures.valid
     (g.O.Outside.told c.args.out.now) (g.O.Outside.told c.read_plan.new.out) (g.O.Outside.told c.check_files.new.out) c.in_ok-plan.ensures.plan c.in_err-check_files.ensures.stop)
 
 pub returns-in_err-check_files-clause-works : goal.returns-in_err-check_files-clause-works
@@ -23,11 +23,11 @@ returns-in_err-check_files-clause-works g c = λ steady.
 
 pub returns-clause-done : goal.returns-clause-done
 returns-clause-done g c =
-    goes_checked (job_read c.args.words.now) c.in_ok-plan.plan (g.O.Outside.opened c.args.out.now) (g.O.Outside.opened c.read_plan.new.out) (g.O.Outside.opened c.check_files.new.out) c.in_ok-plan.ensures.valid
+    goes_checked c.a_valid_job_allows_lines.ensures (job_read c.args.words.now) c.in_ok-plan.plan (g.O.Outside.opened c.args.out.now) (g.O.Outside.opened c.read_plan.new.out) (g.O.Outside.opened c.check_files.new.out) c.in_ok-plan.ensures.valid
     (g.O.Outside.told c.args.out.now) (g.O.Outside.told c.read_plan.new.out) (g.O.Outside.told c.check_files.new.out) c.in_ok-plan.ensures.plan c.in_ok-check_files.ensures.done
 
 pub returns-in_err-check_files-clause-known : goal.returns-in_err-check_files-clause-known
 returns-in_err-check_files-clause-known g c =
     let p = err_from_is_err_and c.from_residual-in_err-check_files.result c.from_residual-in_err-check_files.ensures.1 in
-    rw (p.1, p.2) (goes_check_known (job_read c.args.words.now) c.in_ok-plan.plan c.in_err-check_files.field-0.0 (g.O.Outside.opened c.args.out.now) (g.O.Outside.opened c.read_plan.new.out) c.in_ok-plan.ensures.valid
+    rw (p.1, p.2) (goes_check_known c.a_valid_job_allows_lines.ensures (job_read c.args.words.now) c.in_ok-plan.plan c.in_err-check_files.field-0.0 (g.O.Outside.opened c.args.out.now) (g.O.Outside.opened c.read_plan.new.out) c.in_ok-plan.ensures.valid
     (g.O.Outside.told c.args.out.now) (g.O.Outside.told c.read_plan.new.out) (g.O.Outside.told c.check_files.new.out) c.in_ok-plan.ensures.plan c.in_err-check_files.ensures.stop)

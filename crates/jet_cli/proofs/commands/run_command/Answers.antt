@@ -11,7 +11,7 @@ returns-in-Window g c =
     let e = c.run_base.ensures in
     let words = window_in c.in-Window.words in
     meets_as o.told o.opened o.steady o.faults (WindowOf words) c.args.out.now c.run_base.new.out (command_in c.args.command.now) c.status_of.result c.run_base.result (ap command_in c.in-Window.is) c.status_of.ensures
-    (base_facts o.told o.opened o.steady o.faults words c.args.out.now c.run_base.new.out c.run_base.result e.slide e.done e.valid e.halt e.untouched e.outcome e.works)
+    (base_facts c.none_is_behind.ensures o.told o.opened o.steady o.faults words c.args.out.now c.run_base.new.out c.run_base.result e.slide e.done e.valid e.halt e.untouched e.outcome e.works)
 
 pub returns-in-Plan : goal.returns-in-Plan
 returns-in-Plan g c =

@@ -18,7 +18,7 @@ returns-clause-text g c =
     let now : ℕ → Bool = g.O.Outside.opened c.read_text.new.out in
     let adds : AddsNumber c.in_ok-file.file before now = subst (λ (n : ℕ → Bool). AddsNumber c.in_ok-file.file before n) (sym c.read_text.ensures.outcome.opened_same) c.in_ok-file.ensures.opened in
     if_ok_weaker c.read_text.result (λ text. WhereTold (ReadsFront c.in_ok-file.file 1048577 text.items) mid new) (λ text. WhereTold (ReadsJobFile c.args.name.now text.items before now) old new)
-    (λ text h. goes_job_file c.args.name.now text.items c.in_ok-file.file 1048577 before now old mid new refl adds c.in_ok-file.ensures.told h) c.read_text.ensures.text
+    (λ text h. goes_job_file c.laws_of_files.ensures c.args.name.now text.items c.in_ok-file.file 1048577 before now old mid new refl adds c.in_ok-file.ensures.told h) c.read_text.ensures.text
 
 pub returns-clause-stop : goal.returns-clause-stop
 returns-clause-stop g c =

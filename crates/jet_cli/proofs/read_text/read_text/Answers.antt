@@ -1,9 +1,9 @@
-use Rattle.std.proofs.Common.{rules, ◌∙◌, ◌+◌, ◌≤◌, ◌++◌, ℕ, List, length, drop, take, refl, subst, sym}
+use Rattle.std.proofs.Common.{arith, rules, ◌∙◌, ◌+◌, ◌≤◌, ◌++◌, ℕ, List, length, drop, take, refl, subst, sym}
 use Rattle.std.proofs.lemmas.Result.{err_from_is_err_and}
 use Rattle.jet_file.specs.Outside.{WhereTold}
 use Rattle.jet_worker.specs.Calls.{most_piece}
 use Rattle.jet_cli.specs.inner.TextReading.{TakesText}
-use Rattle.jet_cli.proofs.TextLemmas.{goes_front, goes_lost, goes_piece, goes_stops_reading, goes_untaken, piece_fits, piece_small, room_fits}
+use Rattle.jet_cli.proofs.TextLemmas.{goes_front, goes_full, goes_lost, goes_piece, goes_stops_reading, goes_untaken, piece_fits, piece_small, room_fits, some_count}
 use Rattle.jet_cli.proofs.read_text.read_text.Goals as goal
 
 pub pieces-init : goal.pieces-init
@@ -31,13 +31,13 @@ returns-in_err-append-clause-stop g c =
     let small : length c.read_bytes.new.buf ≤ most_piece = piece_small c.pieces.buf c.read_bytes.new.buf c.len-in-pieces.result c.min-room.result c.args.most c.read_bytes.auto.buf c.min-room.ensures in
     rw (p.1, p.2) (goes_lost c.args.spot c.args.file c.args.most text c.in_err-append.field-0.0 (g.O.Outside.told c.args.out.now) (g.O.Outside.told c.read_bytes.new.out) c.in_err-append.ensures.err
     (piece_fits c.pieces.text.items text c.read_bytes.new.buf rest c.in_ok-count.count c.args.most c.in_ok-count.ensures.bound refl room)
-    (goes_piece c.args.file c.pieces.text.items text c.read_bytes.new.buf rest c.in_ok-count.count (g.O.Outside.told c.args.out.now)
-    (g.O.Outside.told c.pieces.out) (g.O.Outside.told c.read_bytes.new.out) c.in_ok-count.ensures.bound small refl c.pieces.invariant.took c.in_ok-count.ensures.told))
+    (goes_piece c.laws_of_files.ensures c.args.file c.pieces.text.items text c.read_bytes.new.buf rest c.in_ok-count.count (g.O.Outside.told c.args.out.now)
+    (g.O.Outside.told c.pieces.out) (g.O.Outside.told c.read_bytes.new.out) (some_count c.in_ok-count.count c.if-count-eq0.false) c.in_ok-count.ensures.bound small refl c.pieces.invariant.took c.in_ok-count.ensures.told))
 
 pub returns-then-count-eq0-clause-text : goal.returns-then-count-eq0-clause-text
 returns-then-count-eq0-clause-text g c =
     let small : length c.read_bytes.new.buf ≤ most_piece = piece_small c.pieces.buf c.read_bytes.new.buf c.len-in-pieces.result c.min-room.result c.args.most c.read_bytes.auto.buf c.min-room.ensures in
-    goes_front c.args.file c.args.most c.pieces.text.items c.read_bytes.new.buf c.in_ok-count.count (g.O.Outside.told c.args.out.now) (g.O.Outside.told c.pieces.out) (g.O.Outside.told c.read_bytes.new.out)
+    goes_front c.laws_of_files.ensures c.args.file c.args.most c.pieces.text.items c.read_bytes.new.buf c.in_ok-count.count (g.O.Outside.told c.args.out.now) (g.O.Outside.told c.pieces.out) (g.O.Outside.told c.read_bytes.new.out)
     c.if-count-eq0.true small c.pieces.invariant.short c.pieces.invariant.took c.in_ok-count.ensures.told
 
 pub pieces-preserved : goal.pieces-preserved
@@ -47,9 +47,14 @@ pieces-preserved g c =
     let small : length c.read_bytes.new.buf ≤ most_piece = piece_small c.pieces.buf c.read_bytes.new.buf c.len-in-pieces.result c.min-room.result c.args.most c.read_bytes.auto.buf c.min-room.ensures in
     record {
       short = piece_fits c.pieces.text.items c.append.new.text.items c.read_bytes.new.buf (drop c.min-room.result c.pieces.buf) c.in_ok-count.count c.args.most c.in_ok-count.ensures.bound c.in_ok-append.ensures.ok room;
-      took = goes_piece c.args.file c.pieces.text.items c.append.new.text.items c.read_bytes.new.buf (drop c.min-room.result c.pieces.buf) c.in_ok-count.count (g.O.Outside.told c.args.out.now)
-          (g.O.Outside.told c.pieces.out) (g.O.Outside.told c.read_bytes.new.out) c.in_ok-count.ensures.bound small c.in_ok-append.ensures.ok c.pieces.invariant.took c.in_ok-count.ensures.told;
+      took = goes_piece c.laws_of_files.ensures c.args.file c.pieces.text.items c.append.new.text.items c.read_bytes.new.buf (drop c.min-room.result c.pieces.buf) c.in_ok-count.count (g.O.Outside.told c.args.out.now)
+          (g.O.Outside.told c.pieces.out) (g.O.Outside.told c.read_bytes.new.out) (some_count c.in_ok-count.count c.if-count-eq0.false) c.in_ok-count.ensures.bound small c.in_ok-append.ensures.ok c.pieces.invariant.took c.in_ok-count.ensures.told;
       opened_same = c.in_ok-count.ensures.outcome.opened_same ∙ c.pieces.invariant.opened_same;
       steady_same = c.in_ok-count.ensures.outcome.steady_same ∙ c.pieces.invariant.steady_same;
       faults_same = c.in_ok-count.ensures.outcome.cause ∙ c.pieces.invariant.faults_same;
     }
+
+pub returns-clause-text : goal.returns-clause-text
+returns-clause-text g c =
+    let full : c.args.most ≤ length c.pieces.text.items = omega (arith, c.pieces-test.false, c.len.ensures, c.pieces.text.ok.0) in
+    goes_full c.args.file c.args.most c.pieces.text.items (g.O.Outside.told c.args.out.now) (g.O.Outside.told c.pieces.out) c.pieces.invariant.short full c.pieces.invariant.took

@@ -12,7 +12,7 @@ pub returns-in-Ok-clause-told : goal.returns-in-Ok-clause-told
 returns-in-Ok-clause-told g c =
     let most : length c.read_bytes.new.buf ≤ most_piece = omega (arith, c.read_bytes.auto.buf) in
     let more : 0 < c.in-Ok.count = omega arith in
-    goes_piece c.args.file c.read_bytes.new.buf c.in-Ok.count c.args.lines.now c.append.new.self (g.O.Outside.told c.args.out.now) (g.O.Outside.told c.read_bytes.new.out)
+    goes_piece c.what_is_left_of_a_file.ensures.read c.args.file c.read_bytes.new.buf c.in-Ok.count c.args.lines.now c.append.new.self (g.O.Outside.told c.args.out.now) (g.O.Outside.told c.read_bytes.new.out)
     more c.in-Ok.ensures.bound most c.requires.open (appended c.args.lines.now c.reserve.new.self c.append.new.self (take c.in-Ok.count c.read_bytes.new.buf) c.reserve.ensures.same c.append.ensures) c.in-Ok.ensures.told
 
 pub returns-in-Ok-clause-lines : goal.returns-in-Ok-clause-lines
