@@ -14,6 +14,7 @@ mod any_links;
 mod any_rests;
 mod arrival;
 mod call;
+mod crew;
 mod ends;
 mod input;
 mod inputs;
