@@ -1,6 +1,6 @@
 -- The tasks of one worker, one after another, and lists related place by place.
 use Rattle.std.proofs.Common.{◌≡◌, ◌≢◌, ℕ, zero, suc, ◌+◌, ◌<◌, ◌≤◌, List, [], ◌∷◌, ◌++◌, ◌∙◌, refl, sym, ap, subst, inl, inr, get_or, set, length, arith, below_more, length-set}
-use Rattle.std.specs.List.{AllZip}
+use Rattle.std.specs.List.{All, AllZip}
 use Rattle.std.proofs.lemmas.List.{get_or-set_same, get_or-set_other, get_or_default, length-append, get_or_append_left}
 use Rattle.std.proofs.lemmas.List.Elements.{AllZip-get_or}
 use Rattle.std.proofs.Math.Seq.{get_or-append_seam}
@@ -99,6 +99,12 @@ module _ {T : Type 0} (R : T → T → Type 0) where
 
   pub placewise_zip : (xs ys : List T) → AllZip R xs ys → Placewise R xs ys
   placewise_zip xs ys h = record { count = zip_count xs ys h; each = λ k d l. AllZip-get_or R xs ys k d d h l }
+
+-- what holds of each of a list, and what turns keep, holds of each after them
+pub all_kept : {T : Type 0} (keeps : T → Type 0) (went : T → T → Type 0) → ((a b : T) → keeps a → went a b → keeps b) → (xs ys : List T) → Placewise went xs ys → All keeps xs → All keeps ys
+all_kept keeps went on xs ys all kept = λ k d l.
+    let inside : k < length xs = let n = all.count in omega (arith, n, l) in
+    on (get_or xs k d) (get_or ys k d) (kept k d inside) (all.each k d inside)
 
 module _ {T : Type 0} where
   pub set_twice : (xs : List T) (k : ℕ) (x y : T) → set (set xs k x) k y ≡ set xs k y

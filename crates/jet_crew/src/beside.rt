@@ -25,9 +25,11 @@ pub fn epoch<T: Turns + Send, R: Threads + Sync, G: Gate + Sync>(
     requires some { (0 < length workers.old) × (length workers.old < 2 ^ 32) }
     ensures worked { AllWorked T.went T.said turns workers.old workers.new }
     ensures answer { Together (map (λ w. w.end) workers.new) result }
+    ensures kept { All (AllKeep T.keeps) workers.new }
     ensures over { (order : List Spot) → Placed workers.old order → EpochOver T.went T.said result (gather workers.old order) (gather workers.new order) }
     ensures placed { (order : List Spot) → Placed workers.old order → Placed workers.new order }
 {
+    T::law_turns_in_a_row();
     work(rt, gate, number, turns, workers);
     came_to(workers)
 }

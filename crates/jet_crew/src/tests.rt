@@ -31,11 +31,7 @@ impl Turns for Countdown {
         EpochEnd::Moved
     }
 
-    ghost went_keeps = { λ a b h w. tt };
-
-    ghost went_on = { λ a b c h k. tt };
-
-    ghost said_joined = { λ p q a b c h k s t. tt };
+    fn law_turns_in_a_row() {}
 }
 
 // Lets each worker in once both have entered as often, and counts the entries that did not see that.

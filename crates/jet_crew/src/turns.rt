@@ -24,14 +24,12 @@ pub trait Turns {
         ensures went { went self.old self.new }
         ensures said { said result self.old self.new };
 
-    /// Turns keep what holds before each of them.
-    ghost went_keeps: { (a b : Self) → keeps a → went a b → keeps b };
-
-    /// Turns in a row leave what each of them leaves.
-    ghost went_on: { (a b c : Self) → went a b → went b c → went a c };
-
-    /// And their answers join.
-    ghost said_joined: { (p q : EpochEnd) (a b c : Self) → went a b → went b c → said p a b → said q b c → said (joined p q) a c };
+    /// A law: turns keep what holds before each of them, turns in a row leave what each of them leaves, and their answers
+    /// join.
+    fn law_turns_in_a_row()
+        ensures keeps { (a b : Self) → keeps a → went a b → keeps b }
+        ensures went { (a b c : Self) → went a b → went b c → went a c }
+        ensures said { (p q : EpochEnd) → (a b c : Self) → went a b → went b c → said p a b → said q b c → said (joined p q) a c };
 }
 
 // So many turns of one task, one after another.
@@ -39,6 +37,7 @@ pub fn take_turns<T: Turns>(task: &mut T, turns: u32) -> EpochEnd
     requires keeps { T.keeps task.old }
     ensures { Took T.went T.said turns result task.old task.new }
 {
+    T::law_turns_in_a_row();
     let mut end = EpochEnd::Done;
     for _ in 0..turns {
         let next = task.take_turn();

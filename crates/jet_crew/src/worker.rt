@@ -41,6 +41,7 @@ impl<T: Turns> Worker<T> {
         requires some { 0 < turns }
         ensures worked { Worked T.went T.said turns self.old self.new }
         ensures answer { result ≡ self.new.end }
+        ensures kept { AllKeep T.keeps self.new }
     {
         self.end = all_turns(&mut self.tasks, turns);
         self.epochs = self.epochs.wrapping_add(1);
@@ -53,7 +54,9 @@ fn all_turns<T: Turns>(tasks: &mut [T], turns: u32) -> EpochEnd
     requires some { 0 < turns }
     ensures took { TookAll T.went T.said turns result tasks.old tasks.new }
     ensures over { EpochOver T.went T.said result tasks.old tasks.new }
+    ensures kept { All T.keeps tasks.new }
 {
+    T::law_turns_in_a_row();
     let mut end = EpochEnd::Done;
     for task in tasks.iter_mut() {
         let next = take_turns(task, turns);

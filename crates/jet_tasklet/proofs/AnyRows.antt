@@ -26,6 +26,7 @@ use Rattle.jet_tasklet.specs.declared.any.AnyTasklet.TheVariants as any
 use Rattle.jet_tasklet.specs.Kinds.{Kind, OfKinds, stamps, maps, filters, flats, joins, frames, combines}
 use Rattle.jet_tasklet.specs.Keeps.{Keeps, Stays, Goes}
 use Rattle.jet_tasklet.specs.Links.{SendKeeps, ReceiveKeeps, Law, LinkGoes, LinkStays}
+use Rattle.jet_tasklet.specs.Fairness.{TookFairly}
 use Rattle.jet_tasklet.specs.Turned.{Turned}
 use Rattle.jet_tasklet.specs.Turning.{Moves, IsStill}
 use Rattle.jet_tasklet.specs.Any.{AnyIsLawful, AnyKeeps, AnyGoes, AnyStays, AnyTurned, AnyMoves, AnyIsStill}
@@ -37,6 +38,7 @@ use Rattle.jet_wire.specs.Sender.{sender_view}
 use Rattle.jet_wire.specs.SenderTurn.{SenderTurned, move_count as sender_moves, SenderIsStill}
 use Rattle.jet_wire.specs.declared.receiver.Receiver.{Receiver}
 use Rattle.jet_wire.specs.declared.sender.Sender.{Sender}
+use Rattle.jet_tasklet.proofs.Fairness.{fair_trans}
 use Rattle.jet_tasklet.proofs.Keeping.{goes_trans, stays_trans}
 use Rattle.jet_tasklet.proofs.Lasting.{turned_trans}
 use Rattle.jet_tasklet.proofs.Linking.{link_goes_on, link_stays_on, input_with, output_goes, sender_turned_on, sender_still_on, sender_still_count, receiver_turned_on, receiver_still_on, receiver_still_count}
@@ -112,6 +114,9 @@ Kept = record { tasklets = λ P k a b. Stays k.stands k.amid k.takes a b; sender
 abbrev Passed : Words
 Passed = record { tasklets = λ P k a b. Turned k.same a b; senders = λ a b. SenderTurned (sender_view a) (sender_view b); receivers = λ a b. ReceiverTurned (receiver_view a) (receiver_view b) }
 
+abbrev TookInTurn : Words
+TookInTurn = record { tasklets = λ P k a b. TookFairly a b; senders = λ a b. Unit {0}; receivers = λ a b. Unit {0} }
+
 abbrev Moved : Words
 Moved = record { tasklets = λ P k a b. Moves a b; senders = λ a b. sender_moves (sender_view a) < sender_moves (sender_view b); receivers = λ a b. receiver_moves (receiver_view a) < receiver_moves (receiver_view b) }
 
@@ -130,6 +135,13 @@ passed_links = record {
   tasklets = λ P k l a b c f g. turned_trans k.same l a b c f g;
   senders = λ a b c. sender_turned_on (sender_view a) (sender_view b) (sender_view c);
   receivers = λ a b c. receiver_turned_on (receiver_view a) (receiver_view b) (receiver_view c);
+}
+
+in_turn_links : Links TookInTurn TookInTurn TookInTurn
+in_turn_links = record {
+  tasklets = λ P k l a b c f g. fair_trans a b c f g;
+  senders = λ a b c f g. tt;
+  receivers = λ a b c f g. tt;
 }
 
 kept_links : Links Kept Kept Kept
@@ -171,6 +183,7 @@ pub any_went_trans : (t u v : AnyTasklet) → AnyWent t u → AnyWent u v → An
 any_went_trans t u v h k = record {
   goes = link Went Went Went went_links t u v h.goes k.goes;
   turned = link Passed Passed Passed passed_links t u v h.turned k.turned;
+  fair = link TookInTurn TookInTurn TookInTurn in_turn_links t u v h.fair k.fair;
 }
 
 pub any_lawful_on : (t u : AnyTasklet) → AnyIsLawful t → AnyWent t u → AnyIsLawful u

@@ -39,6 +39,7 @@ mod Spots
 pub mod StampFronts
 pub mod StampRests
 pub mod Stepping
+pub mod TaskTurns
 pub mod Telling
 pub mod Tracing
 pub mod Turning

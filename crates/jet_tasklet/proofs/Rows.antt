@@ -1,12 +1,11 @@
 -- Turns in a row, of one tasklet.
-use Rattle.std.proofs.Common.{◌≡◌, ℕ, zero, suc, ◌+◌, ◌<◌, ◌≤◌, ◌⊎◌, List, [], ◌∷◌, ◌++◌, map, length, get_or, refl, sym, ◌∙◌, ap, subst, inl, inr, arith, length-append, append_assoc, append-nil}
+use Rattle.std.proofs.Common.{◌≡◌, ℕ, suc, ◌+◌, ◌<◌, ◌≤◌, List, [], ◌∷◌, ◌++◌, map, length, get_or, refl, sym, ◌∙◌, ap, inl, inr, arith, length-append, append_assoc, append-nil}
 use Rattle.std.specs.Prelude.{sum_by}
 use Rattle.std.specs.List.{AllZip}
 use Rattle.std.proofs.lemmas.List.Sums.{sum_by-append}
 use mathlib.Core.List.{IsPrefix}
 use Rattle.jet_items.specs.declared.item.Item.{Item}
 use Rattle.jet_ring.specs.Ring.{Ring, TxView}
-use Rattle.jet_conveyor.specs.Conveyor as conveyor
 use Rattle.jet_router.specs.Router as router
 use Rattle.jet_boxes.specs.declared.port.Port.{Port}
 use Rattle.jet_boxes.specs.Entry.{CallEntry}
@@ -20,6 +19,7 @@ use Rattle.jet_tasklet.specs.Turned.{InputGoes, OutputGoes, Turned}
 use Rattle.jet_tasklet.specs.Turning.{Enters, Moves, IsStill}
 use Rattle.jet_tasklet.specs.Turns.{Went, Rests, Said, joined, txs_of, SameEnds, move_count, Counts, Counted}
 use Rattle.jet_tasklet.specs.Keeps.{Keeps, Stays, Goes, entered}
+use Rattle.jet_tasklet.proofs.Fairness.{fair_trans}
 use Rattle.jet_tasklet.proofs.Keeping.{goes_trans, stays_trans}
 use Rattle.jet_tasklet.proofs.Lasting.{turned_trans}
 
@@ -225,7 +225,7 @@ module _ {P : Type 0} (stands : P → List CallEntry → List Item → Type 0) (
       record { more = r.0; given = r.1; keeps = r.2; entered = r.3; counts = rises a b gave r.1 t r.3 m }
 
   pub went_trans : ((p q r : P) → same p q → same q r → same p r) → (t u v : Tasklet P) → Went stands amid takes same t u → Went stands amid takes same u v → Went stands amid takes same t v
-  went_trans trans t u v h k = record { goes = goes_trans stands amid takes t u v h.goes k.goes; turned = turned_trans same trans t u v h.turned k.turned }
+  went_trans trans t u v h k = record { goes = goes_trans stands amid takes t u v h.goes k.goes; turned = turned_trans same trans t u v h.turned k.turned; fair = fair_trans t u v h.fair k.fair }
 
 pub same_count : (says : Progress) → (says ≡ progress.Moved → ⊥) → (before after : ℕ) → after ≡ before → Counts says before after
 same_count progress.Moved unmoved before after e = absurd (unmoved refl)

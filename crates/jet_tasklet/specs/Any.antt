@@ -10,6 +10,7 @@ use Rattle.jet_wire.specs.Sender.{sender_view}
 use Rattle.jet_wire.specs.SenderTurn.{SenderTurned, move_count, SenderIsStill, SenderHasEnded}
 use Rattle.jet_tasklet.specs.declared.arrival.Arrival.{Arrival}
 use Rattle.jet_tasklet.specs.declared.any.AnyTasklet.{AnyTasklet}
+use Rattle.jet_tasklet.specs.Fairness.{TookFairly}
 use Rattle.jet_tasklet.specs.Inputs.{inputs_view, received_count}
 use Rattle.jet_tasklet.specs.Kinds.{OfKind, OfKinds, changed, inputs_of}
 use Rattle.jet_tasklet.specs.Keeps.{Keeps, IsLawful, Stays, Goes}
@@ -38,6 +39,10 @@ AnyTurned t u = OfKinds (λ P k a b. Turned k.same a b) (λ a b. SenderTurned (s
 -- it received at most 64 items
 abbrev pub AnyFew : AnyTasklet → AnyTasklet → Type 0
 AnyFew t u = received_count (inputs_view (inputs_of u)) ≤ received_count (inputs_view (inputs_of t)) + 64
+
+-- where it runs a processor, whatever it took was taken in its turn
+abbrev pub AnyTookFairly : AnyTasklet → AnyTasklet → Type 0
+AnyTookFairly t u = OfKinds (λ P k a b. TookFairly a b) (λ a b. Unit {0}) (λ a b. Unit {0}) t u
 
 -- its processor may want memory
 abbrev pub AnyMayWant : AnyTasklet → Type 0

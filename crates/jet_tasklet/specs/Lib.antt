@@ -1,6 +1,6 @@
 pub mod Any
 pub mod AnyOver
-pub mod Over
+pub mod Crew
 pub mod DoneLast
 pub mod Fairness
 pub mod InOrder
@@ -14,7 +14,9 @@ pub mod MarksGiven
 pub mod Meeting
 pub mod Merging
 pub mod Outputs
+pub mod Over
 pub mod Sending
+pub mod StampInOrder
 pub mod Steps
 pub mod Taking
 pub mod Trace
@@ -23,5 +25,4 @@ pub mod Turning
 pub mod Turns
 pub mod Views
 pub mod Wanting
-pub mod StampInOrder
 pub mod inner

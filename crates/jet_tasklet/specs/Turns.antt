@@ -11,12 +11,13 @@ use Rattle.jet_wire.specs.declared.progress.Progress.{Progress}
 use Rattle.jet_wire.specs.declared.progress.Progress.TheVariants as progress
 use Rattle.jet_tasklet.specs.declared.tasklet.Tasklet.{Tasklet}
 use Rattle.jet_tasklet.specs.declared.any.AnyTasklet.{AnyTasklet}
+use Rattle.jet_tasklet.specs.Fairness.{TookFairly}
 use Rattle.jet_tasklet.specs.Inputs.{InputView, inputs_view, received_count}
 use Rattle.jet_tasklet.specs.Outputs.{OutputView, outputs_view, sent_count}
 use Rattle.jet_tasklet.specs.Keeps.{Keeps, Stays, Goes}
 use Rattle.jet_tasklet.specs.Turned.{Turned}
 use Rattle.jet_tasklet.specs.Turning.{HasEnded, IsBlocked, IsStarved, Moves, IsStill}
-use Rattle.jet_tasklet.specs.Any.{AnyKeeps, AnyStays, AnyGoes, AnyTurned, AnyMoves, AnyIsStill, AnyHasEnded, AnyIsBlocked, AnyIsStarved}
+use Rattle.jet_tasklet.specs.Any.{AnyKeeps, AnyStays, AnyGoes, AnyTurned, AnyTookFairly, AnyMoves, AnyIsStill, AnyHasEnded, AnyIsBlocked, AnyIsStarved}
 use Rattle.jet_tasklet.specs.Kinds.{seen}
 use Rattle.jet_tasklet.specs.Views.{waiting}
 use Rattle.jet_wire.specs.Receiver.{receiver_view}
@@ -24,10 +25,11 @@ use Rattle.jet_wire.specs.ReceiverTurn.{moved_count as receiver_moves}
 use Rattle.jet_wire.specs.Sender.{sender_view}
 use Rattle.jet_wire.specs.SenderTurn.{move_count as sender_moves}
 
--- the tasklet has gone on, and its ends stay those of their rings
+-- the tasklet has gone on, its ends stay those of their rings, and what it took was taken in its turn
 pub record Went {P : Type 0} (stands : P → List CallEntry → List Item → Type 0) (amid : P → List CallEntry → CallEntry → List Item → Type 0) (takes : P → Port → ℕ → Type 0) (same : P → P → Type 0) (a b : Tasklet P) : Type 0 where
   pub goes : Goes stands amid takes a b
   pub turned : Turned same a b
+  pub fair : TookFairly a b
 
 -- nothing moved, nothing came and nothing was given
 pub record Rests {P : Type 0} (stands : P → List CallEntry → List Item → Type 0) (amid : P → List CallEntry → CallEntry → List Item → Type 0) (takes : P → Port → ℕ → Type 0) (a b : Tasklet P) : Type 0 where
@@ -79,6 +81,7 @@ pub record Counted {P : Type 0} (stands : P → List CallEntry → List Item →
 pub record AnyWent (t u : AnyTasklet) : Type 0 where
   pub goes : AnyGoes t u
   pub turned : AnyTurned t u
+  pub fair : AnyTookFairly t u
 
 pub record AnyRests (t u : AnyTasklet) : Type 0 where
   pub still : AnyIsStill t u

@@ -44,7 +44,7 @@ impl AnyTasklet {
     ghost use Rattle.jet_router.specs.Router as routers;
     ghost use Rattle.jet_router.specs.declared.router.Router.{Router};
     ghost use Rattle.jet_tasklet.specs.declared.arrival.Arrival.{Arrival};
-    ghost use Rattle.jet_tasklet.specs.Any.{AnyKeeps, AnyIsLawful, AnyStays, AnyGoes, AnyTurned, AnyFew, AnyMayWant, AnyHasEnded, AnyIsBlocked, AnyIsStarved, AnyMoves, AnyIsStill, any_with_input, any_with_output};
+    ghost use Rattle.jet_tasklet.specs.Any.{AnyKeeps, AnyIsLawful, AnyStays, AnyGoes, AnyTurned, AnyTookFairly, AnyFew, AnyMayWant, AnyHasEnded, AnyIsBlocked, AnyIsStarved, AnyMoves, AnyIsStill, any_with_input, any_with_output};
 
     /// A turn of the tasklet, as its kind has it.
     pub fn turn(&mut self) -> Result<Progress, NoMemory>
@@ -52,6 +52,7 @@ impl AnyTasklet {
         ensures keeps { AnyGoes self.old self.new }
         ensures turned { AnyTurned self.old self.new }
         ensures few { AnyFew self.old self.new }
+        ensures fair { AnyTookFairly self.old self.new }
         ensures wants { OnErr result (AnyMayWant self.old) }
         ensures pending { OnErr result (IsWanting (step_of self.new)) }
         ensures done { result ≡ Ok progress.Done → AnyHasEnded self.old × (self.new ≡ self.old) }

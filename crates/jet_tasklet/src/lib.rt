@@ -13,6 +13,7 @@ mod any_ends;
 mod any_rests;
 mod arrival;
 mod call;
+mod crew;
 mod ends;
 mod input;
 mod inputs;

@@ -13,7 +13,7 @@ take_turn-next-requires g c = record { keeps = c.loop.invariant.0 }
 pub loop-preserved : goal.loop-preserved
 loop-preserved g c =
     let to = c.take_turn-next.new.self in (
-      g.met.T.Turns.went_keeps c.loop.task to c.loop.invariant.0 c.take_turn-next.ensures.went,
+      c.law_turns_in_a_row.ensures.keeps c.loop.task to c.loop.invariant.0 c.take_turn-next.ensures.went,
       subst (λ (e : EpochEnd). Took g.T.Turns.went g.T.Turns.said (c.loop.counter + 1) e c.args.task.now to) (sym c.worse-end.ensures)
           (took_more g.T.Turns.went g.T.Turns.said c.loop.counter c.loop.end c.take_turn-next.result c.args.task.now c.loop.task to c.loop.invariant.1 c.take_turn-next.ensures.went c.take_turn-next.ensures.said),
     )

@@ -1,7 +1,7 @@
 use Rattle.std.proofs.Common.{◌+◌, ◌∙◌, get_or, set, sym, subst, arith}
 use Rattle.std.proofs.lemmas.List.{get_or_default}
 use Rattle.jet_crew.specs.declared.end.EpochEnd.{EpochEnd}
-use Rattle.jet_crew.proofs.Places.{SoFar, none_so_far, one_more, all_of_them, epoch_over}
+use Rattle.jet_crew.proofs.Places.{SoFar, none_so_far, one_more, all_of_them, epoch_over, all_kept}
 use Rattle.jet_crew.proofs.worker.all_turns.Goals as goal
 
 pub loop-task-init : goal.loop-task-init
@@ -27,4 +27,7 @@ pub returns-clause-took : goal.returns-clause-took
 returns-clause-took g c = all_of_them g.T.Turns.went g.T.Turns.said c.args.turns c.loop-task.end c.args.tasks.now c.loop-task.tasks c.loop-task.task-index (omega arith) c.loop-task.invariant
 
 pub returns-clause-over : goal.returns-clause-over
-returns-clause-over g c = epoch_over g.T.Turns.went g.T.Turns.said c.args.turns c.requires.some g.met.T.Turns.went_on g.met.T.Turns.said_joined c.loop-task.end c.args.tasks.now c.loop-task.tasks (returns-clause-took g c)
+returns-clause-over g c = epoch_over g.T.Turns.went g.T.Turns.said c.args.turns c.requires.some c.law_turns_in_a_row.ensures.went c.law_turns_in_a_row.ensures.said c.loop-task.end c.args.tasks.now c.loop-task.tasks (returns-clause-took g c)
+
+pub returns-clause-kept : goal.returns-clause-kept
+returns-clause-kept g c = all_kept g.T.Turns.keeps g.T.Turns.went c.law_turns_in_a_row.ensures.keeps c.args.tasks.now c.loop-task.tasks (returns-clause-over g c).went_all c.requires.keeps
