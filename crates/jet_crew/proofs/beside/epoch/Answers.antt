@@ -1,4 +1,4 @@
-use Rattle.std.proofs.Common.{ℕ, ◌<◌, length, get_or, arith}
+use Rattle.std.proofs.Common.{◌<◌, length, get_or, arith}
 use Rattle.jet_crew.proofs.Places.{all_kept}
 use Rattle.jet_crew.proofs.Overall.{over_list, placed_after}
 use Rattle.jet_crew.proofs.beside.epoch.Goals as goal
