@@ -33,7 +33,9 @@ impl<P: Processor> Tasklet<P> {
         ensures met { HaveMet (outputs_view self.new.outputs.items) output dest (inputs_view taker.new.inputs.items) input queue }
     {
         let tx = self.output(output).tx(dest);
-        let _ = taker.input(input).refresh_queue(queue, tx);
+        let Ok(()) = taker.input(input).refresh_queue(queue, tx) else {
+            unreachable!()
+        };
     }
 }
 
@@ -52,7 +54,9 @@ pub fn meet(
     ensures met { HaveMet (outs giver.new) output dest (ins taker.new) input queue }
 {
     let tx = giver.output(output).tx(dest);
-    let _ = taker.input(input).refresh_queue(queue, tx);
+    let Ok(()) = taker.input(input).refresh_queue(queue, tx) else {
+        unreachable!()
+    };
 }
 
 /// The ring from an end outside to a queue of a tasklet meets.
@@ -64,7 +68,9 @@ pub fn meet_source(tx: &mut Tx<Item>, taker: &mut AnyTasklet, input: u32, queue:
     ensures taker { AnyTakerMet taker.old taker.new input queue }
     ensures met { (rx : RxView Item) × HasQueue (ins taker.new) input queue rx × EndsMet (ring.tx_view tx.new) rx }
 {
-    let _ = taker.input(input).refresh_queue(queue, tx);
+    let Ok(()) = taker.input(input).refresh_queue(queue, tx) else {
+        unreachable!()
+    };
 }
 
 /// The ring from a destination of a tasklet to a queue of a conveyor outside meets.
@@ -82,7 +88,9 @@ pub fn meet_sink(
     ensures met { (tx : TxView Item) × (rx : RxView Item) × HasEnd (outs giver.new) output dest tx × IsQueue (conveyors.view conveyor.new) queue rx × EndsMet tx rx }
 {
     let tx = giver.output(output).tx(dest);
-    let _ = conveyor.refresh_queue(queue, tx);
+    let Ok(()) = conveyor.refresh_queue(queue, tx) else {
+        unreachable!()
+    };
 }
 
 /// The two ends of a link meet: of both its rings. Each tasklet keeps what it keeps, and neither gives or takes anything.
@@ -99,5 +107,7 @@ pub fn meet_link(sender: &mut AnyTasklet, receiver: &mut AnyTasklet)
     let AnyTasklet::Receive(to) = receiver else {
         unreachable!()
     };
-    let _ = refresh_link(from, to);
+    let Ok(()) = refresh_link(from, to) else {
+        unreachable!()
+    };
 }
