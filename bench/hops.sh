@@ -9,7 +9,7 @@ trap 'rm -rf "$folder"' EXIT
 taken() { valgrind --tool=callgrind --callgrind-out-file=/dev/null "$@" 2>&1 | sed -n 's/.*Collected : //p'; }
 each() { less=$(taken "$@" 20000) && more=$(taken "$@" 40000) && echo "$(((more - less) / 20000))"; }
 command -v rustc > /dev/null && rustc --edition 2021 -O -o "$folder/plain" "$bench/plain_hops.rs"
-for run in 'ring 1' 'filter 1' 'stamp 1' 'coalescer 4' 'coalescer 1000' 'router 4' 'router 64'; do
+for run in 'keys 2' 'ring 1' 'filter 1' 'stamp 1' 'first 4' 'first 1000' 'last 4' 'last 1000' 'turns 4' 'turns 1000' 'router 4' 'router 64'; do
     plain=""
     [ -x "$folder/plain" ] && plain=", in ordinary Rust $(each "$folder/plain" $run)"
     echo "$run: $(each out/bench_hops $run) instructions each$plain"

@@ -93,12 +93,14 @@ fn main() {
         "ring" => drain(&mut filled(count)),
         "filter" => through(filled(count), false),
         "stamp" => through(filled(count), true),
-        "coalescer" | "turns" => {
+        "first" | "last" | "turns" => {
             let (mut marks, mut low) = (vec![None; size], None);
-            if what == "coalescer" {
-                marks[1..].fill(Some(1_000_000_000));
+            let behind = if what == "last" { size - 1 } else { 0 };
+            if what != "turns" {
+                marks.fill(Some(1_000_000_000));
+                marks[behind] = None;
             }
-            let queue = |n: u32| if what == "turns" { n as usize % size } else { 0 };
+            let queue = |n: u32| if what == "turns" { n as usize % size } else { behind };
             let mark = |n: u32| if what == "turns" { i64::from(n) / size as i64 } else { i64::from(n) };
             (0..count).filter(|n| tell(&mut marks, &mut low, queue(*n), mark(*n))).count() as u32
         }
@@ -111,8 +113,8 @@ fn main() {
             dests.iter().map(|dest| dest.len() as u32).sum()
         }
         "keys" => {
-            let keys = black_box([key(b"sensor-1"), key(b"sensor-2"), key(b"sensor-3")]);
-            (0..count).filter(|n| keys[*n as usize % 3] < keys[*n as usize / 3 % 3]).count() as u32
+            let keys = black_box([key(b"sensor-1"), key(b"sensor-2")]);
+            (0..count).filter(|n| keys[*n as usize % 2] < keys[*n as usize / 2 % 2]).count() as u32
         }
         _ => 0,
     };

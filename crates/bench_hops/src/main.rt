@@ -1,7 +1,9 @@
-//! Measures what an item costs on its way through one tasklet, a mark in a coalescer, and an item in a router.
+//! Measures what an item costs on its way through one tasklet, a mark in a coalescer, an item in a router, and a comparison
+//! of two keys.
 //!
 //! The words `WHAT SIZE COUNT` choose what is driven, how many queues or destinations it has, and how far it is driven:
-//! `ring`, `filter`, `stamp`, `coalescer` or `router`. It prints how much came through. Without words each is driven once.
+//! `keys`, `ring`, `filter`, `stamp`, `router`, or a coalescer of which the `first` or the `last` queue alone is behind, or
+//! whose queues tell their marks in `turns`. It prints how much came through. Without words each is driven once.
 #![tactic(auto)]
 
 ghost use Rattle.std.specs.Prelude.{◌≡◌, ◌<◌, ◌≤◌, ◌^◌, ℕ, [], length, true, IfOk, IfSome};
@@ -31,12 +33,17 @@ const SLOTS: usize = 65_536;
 // The slots of a destination of a router: 4 of them have room for as many items.
 const DEST_SLOTS: usize = 16_384;
 
-const ALL: [(&str, u32); 7] = [
+const ALL: [(&str, u32); 12] = [
+    ("keys", 2),
     ("ring", 1),
     ("filter", 1),
     ("stamp", 1),
-    ("coalescer", 4),
-    ("coalescer", 1000),
+    ("first", 4),
+    ("first", 1000),
+    ("last", 4),
+    ("last", 1000),
+    ("turns", 4),
+    ("turns", 1000),
     ("router", 4),
     ("router", 64),
 ];
@@ -60,10 +67,13 @@ fn main(rt: HostRuntime) -> io::Result<()> {
 fn show(rt: HostRuntime, what: &str, size: u32, count: u32) -> io::Result<()> {
     let alloc = rt.alloc();
     let came = match what {
+        "keys" => compared(alloc, count),
         "ring" => through_ring(alloc, count),
         "filter" => through_filter(alloc, count),
         "stamp" => through_stamp(alloc, count),
-        "coalescer" => through_coalescer(alloc, size, count),
+        "first" => through_coalescer(alloc, size, 0, count),
+        "last" => through_coalescer(alloc, size, size.saturating_sub(1), count),
+        "turns" => by_turns(alloc, size, count),
         "router" => through_router(alloc, size, count),
         _ => None,
     };
@@ -71,6 +81,26 @@ fn show(rt: HostRuntime, what: &str, size: u32, count: u32) -> io::Result<()> {
         Some(came) => println!(rt; "{what} {size}: {came}"),
         None => Err(io::Error::from(ErrorKind::OutOfMemory)),
     }
+}
+
+fn compared(alloc: Global, count: u32) -> Option<u32> {
+    let one = Key::read(b"sensor-1", 40).ok()?;
+    let two = Key::read(b"sensor-2", 40).ok()?;
+    let keys = Vec::from_array(alloc, [one, two]).ok()?;
+    Some(lesser(&keys, count))
+}
+
+// Compares two keys so many times, each with itself and with the other, and answers how often the first was the lesser.
+fn lesser(keys: &[Key], count: u32) -> u32
+    requires { length keys.now ≡ 2 }
+{
+    let mut lesser = 0u32;
+    for n in 0..count {
+        if keys[n as usize % 2] < keys[n as usize / 2 % 2] {
+            lesser = lesser.wrapping_add(1);
+        }
+    }
+    lesser
 }
 
 fn event() -> Option<Item> {
@@ -199,8 +229,30 @@ fn tell(coalescer: &mut Coalescer, queue: u32, t: i64) -> bool
     }
 }
 
-// All queues but the first are far ahead, so each mark of that raises the watermark.
-fn through_coalescer(alloc: Global, queues: u32, count: u32) -> Option<u32> {
+// All queues but one are far ahead, so each mark of that raises the watermark.
+fn through_coalescer(alloc: Global, queues: u32, behind: u32, count: u32) -> Option<u32> {
+    let Ok(mut coalescer) = Coalescer::new(alloc, queues) else {
+        return None;
+    };
+    if behind >= queues {
+        return Some(0);
+    }
+    let mut rises = 0u32;
+    'ahead: for queue in 0..queues {
+        if queue != behind {
+            tell(&mut coalescer, queue, 1_000_000_000);
+        }
+    }
+    'behind: for t in 0..count {
+        if tell(&mut coalescer, behind, i64::from(t)) {
+            rises = rises.wrapping_add(1);
+        }
+    }
+    Some(rises)
+}
+
+// All queues tell the same marks, one after the other, so the watermark rises with the last of them.
+fn by_turns(alloc: Global, queues: u32, count: u32) -> Option<u32> {
     let Ok(mut coalescer) = Coalescer::new(alloc, queues) else {
         return None;
     };
@@ -208,11 +260,8 @@ fn through_coalescer(alloc: Global, queues: u32, count: u32) -> Option<u32> {
         return Some(0);
     }
     let mut rises = 0u32;
-    'ahead: for queue in 1..queues {
-        tell(&mut coalescer, queue, 1_000_000_000);
-    }
-    'behind: for t in 0..count {
-        if tell(&mut coalescer, 0, i64::from(t)) {
+    'turns: for n in 0..count {
+        if tell(&mut coalescer, n % queues, i64::from(n / queues)) {
             rises = rises.wrapping_add(1);
         }
     }
