@@ -6,3 +6,4 @@ pub mod Linking
 pub mod Feeding
 pub mod Attending
 pub mod Lasting
+pub mod Keeping

@@ -3,3 +3,4 @@ pub mod Looking
 pub mod Links
 pub mod Wiring
 pub mod Lasting
+pub mod Jobs

@@ -2,11 +2,13 @@
 //!
 //! All tasklets of a job stand in workers, behind one list (`jet_crew`). A `DestAt` and a `QueueAt` say where in that list the
 //! two ends of a ring stand, and a `Junction` is a ring between two tasklets. To let ends meet, tasklets are taken out of the
-//! list and put back; contracts tell what they know then, and that nothing else changed.
+//! list and put back; contracts tell what they know then, and that nothing else changed. A `Job` has the workers and the ends
+//! that the coordinator holds: it meets, and has epochs in which all tasklets take their turns beside each other.
 #![tactic(auto)]
 
 mod drains;
 mod feeds;
+mod job;
 mod junctions;
 mod laws;
 mod links;
@@ -16,6 +18,7 @@ mod wiring;
 
 pub use drains::meet_drain;
 pub use feeds::meet_feed;
+pub use job::Job;
 pub use junctions::{Spares, meet_junction, meet_junctions};
 pub use laws::turns_keep_the_wiring;
 pub use links::meet_link_at;
