@@ -1,5 +1,5 @@
 // The tasks of all workers as one list: how one comes into it, and how one is taken out of it for a while.
-ghost use Rattle.std.specs.Prelude.{◌≡◌, ◌≢◌, ◌<◌, [], ◌∷◌, ◌++◌, slice_set, slice_index_or, vec_len, OnOk, OnErr};
+ghost use Rattle.std.specs.Prelude.{◌≡◌, ◌≢◌, ℕ, ◌<◌, [], ◌∷◌, ◌++◌, length, slice_set, slice_index_or, vec_len, OnOk, OnErr};
 ghost use Rattle.jet_crew.specs.Gather.{gather, Placed, epochs_of};
 
 use crate::Worker;
@@ -24,6 +24,8 @@ pub fn place<T: Drop>(
     requires placed { Placed workers.old.items order.old.items }
     requires inside { worker < vec_len workers.old }
     ensures tasks { OnOk result (gather workers.new.items order.new.items ≡ gather workers.old.items order.old.items ++ task ∷ []) }
+    ensures spot { OnOk result ((slot : ℕ) × (order.new.items ≡ order.old.items ++ record { worker = worker; slot = slot } ∷ [])) }
+    ensures workers { length workers.new.items ≡ length workers.old.items }
     ensures same { OnErr result (gather workers.new.items order.new.items ≡ gather workers.old.items order.old.items) }
     ensures placed { Placed workers.new.items order.new.items }
     ensures epochs { epochs_of workers.new.items ≡ epochs_of workers.old.items }

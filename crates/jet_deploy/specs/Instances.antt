@@ -1,5 +1,5 @@
 -- What runs an instance of a vertex.
-use Rattle.std.specs.Prelude.{◌≡◌, ℕ, Bool, true, false, ℤ, pos, [], length, None}
+use Rattle.std.specs.Prelude.{◌≡◌, ℕ, ℤ, pos, [], length, None}
 use Rattle.jet_boxes.specs.declared.port.Port.TheVariants.{Stream}
 use Rattle.jet_plan.specs.declared.dag.Dag.{Dag}
 use Rattle.jet_plan.specs.declared.kind.Kind.{Kind}
@@ -13,12 +13,6 @@ use Rattle.jet_tasklet.specs.Inputs.{inputs_view, queue_count}
 use Rattle.jet_window.specs.declared.frame.FrameP.{FrameP}
 use Rattle.jet_window.specs.declared.combine.CombineP.{CombineP}
 use Rattle.jet_deploy.specs.Windows.{IsNamed, HasSizes}
-
--- a vertex that reads files
-abbrev pub reads_files : Kind → Bool
-reads_files (Source names lag) = true
-reads_files (Side file) = true
-reads_files _ = false
 
 -- it marks by this lag and grain, each of its queues by itself
 pub record Marks (lag grain : ℤ) (t : Tasklet Stamp) : Type 0 where

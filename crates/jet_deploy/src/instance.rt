@@ -3,7 +3,7 @@ ghost use Rattle.std.specs.Prelude.{◌≡◌, ◌<◌, ◌^◌, true, false, []
 ghost use Rattle.jet_boxes.specs.declared.port.Port.{Port};
 ghost use Rattle.jet_boxes.specs.declared.port.Port.TheVariants.{Stream, Build};
 ghost use Rattle.jet_items.specs.Order.{Each};
-ghost use Rattle.jet_plan.specs.Kinds.{is_sink};
+ghost use Rattle.jet_plan.specs.Kinds.{is_sink, reads_files};
 ghost use Rattle.jet_router.specs.Router.{view};
 ghost use Rattle.jet_run.specs.Flows.{IsFor};
 ghost use Rattle.jet_tasklet.specs.Any.{AnyKeeps};
@@ -11,7 +11,7 @@ ghost use Rattle.jet_tasklet.specs.Inputs.{inputs_view, queue_count};
 ghost use Rattle.jet_tasklet.specs.Keeps.{IsUnread, IsUnsent};
 ghost use Rattle.jet_tasklet.specs.Outputs.{HasDest, ready};
 ghost use Rattle.jet_tasklet.specs.Views.{ins, outs};
-ghost use Rattle.jet_deploy.specs.Instances.{reads_files, HasMore};
+ghost use Rattle.jet_deploy.specs.Instances.{HasMore};
 ghost use Rattle.jet_deploy.specs.Ranges.{IsUnit};
 
 use crate::processor::{combine, filter, flat, frame, join, map};

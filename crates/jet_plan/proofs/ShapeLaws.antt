@@ -24,7 +24,7 @@ use Rattle.jet_plan.specs.Faults.{shape_faults, end_faults, edge_faults, range_f
 use Rattle.jet_plan.specs.First.{at_first}
 use Rattle.jet_plan.specs.Gathering.{is_isolated_distributed, broadcasts_events, meets_partitions, crosses_members, is_not_gathered}
 use Rattle.jet_plan.specs.JobShape.{sends_events, takes_events, Leads, MeetsPartitions, VertexShape, EdgeShape, RouteShape, JobShape}
-use Rattle.jet_plan.specs.Kinds.{is_side, is_join, is_accumulate, is_combine, is_sink, is_isolated, is_partitioned, is_broadcast}
+use Rattle.jet_plan.specs.Kinds.{reads_files, is_side, is_join, is_accumulate, is_combine, is_sink, is_isolated, is_partitioned, is_broadcast}
 use Rattle.jet_plan.specs.Names.{has_name, is_double, first_double, end_is, AreKnown}
 use Rattle.jet_plan.specs.Paths.{leaves_window_path, mixes_sides}
 use Rattle.jet_plan.specs.SettingRanges.{is_between, wrong_setting, wrong_size, wrong_limit, wrong_grant, size_settings}
@@ -170,6 +170,34 @@ join_by_build kind n m h more = absurd (no_build m (nat_lt 0 n) h more)
 
 one_is_more : (n : ℕ) → (n == 1) ≡ true → 0 < n
 one_is_more n h = let e = is_equal n 1 h in omega (arith, e)
+
+no_stream : (n m : ℕ) → (n == 0 && m == 0) ≡ true → 0 < n + m → ⊥
+no_stream n m h more = let parts = both (n == 0) (m == 0) h in let a = is_equal n 0 parts.0 in let b = is_equal m 0 parts.1 in omega (arith, a, b, more)
+
+no_file : (k : Kind) (n m : ℕ) → may_have_inputs k n m ≡ true → 0 < n + m → reads_files k ≡ false
+no_file (Source files lag) n m h more = absurd (no_stream n m h more)
+no_file (Side file) n m h more = absurd (no_stream n m h more)
+no_file kind n m h more = refl
+
+has_stream : (k : Kind) (n m : ℕ) → may_have_inputs k n m ≡ true → reads_files k ≡ false → 0 < n
+has_stream (Source files lag) n m h is = absurd (cc is)
+has_stream (Side file) n m h is = absurd (cc is)
+has_stream (Join mode rekey fields) n m h is = (one_build m n h).1
+has_stream Combine n m h is = one_is_more n (both (n == 1) (m == 0) h).0
+has_stream kind n m h is = is_less 0 n (both (nat_lt 0 n) (m == 0) h).0
+
+no_sink : (k : Kind) (n : ℕ) → may_have_outputs k n ≡ true → 0 < n → is_sink k ≡ false
+no_sink Sink n h more = let e = is_equal n 0 h in absurd (omega (arith, e, more))
+no_sink kind n h more = refl
+
+-- an edge into a vertex is a build edge or a stream edge
+either_way : (edges : List Edge) (name : List ℕ) (e : Edge) → Contains edges e → bytes_eq e.to name ≡ true → (b : Bool) → e.build ≡ b → 0 < streams_into edges name + builds_into edges name
+either_way edges name e there to true is =
+    let n = counted (λ e. bytes_eq e.to name && e.build) edges e there (both_true (bytes_eq e.to name) e.build to is) in
+    omega (arith, n)
+either_way edges name e there to false is =
+    let n = counted (λ e. bytes_eq e.to name && not e.build) edges e there (both_true (bytes_eq e.to name) (not e.build) to (ap not is)) in
+    omega (arith, n)
 
 has_output : (k : Kind) (n : ℕ) → may_have_outputs k n ≡ true → is_sink k ≡ false → 0 < n
 has_output (Accumulate size slide) n h is = one_is_more n h
@@ -317,6 +345,7 @@ module _ (dag : Dag) (s : Settings) (f : Faultless dag s) where
         sink = f.one_sink;
         joins = λ v there is. join_inputs v.kind (streams_into dag.edges v.name) (builds_into dag.edges v.name) (may_enter v there) is;
         combines = λ v there is. combine_inputs v.kind (streams_into dag.edges v.name) (builds_into dag.edges v.name) (may_enter v there) is;
+        inputs = λ v there is. has_stream v.kind (streams_into dag.edges v.name) (builds_into dag.edges v.name) (may_enter v there) is;
         outputs = λ v there is. has_output v.kind (edges_from dag.edges v.name) (may_leave v there) is;
       }
 
@@ -326,6 +355,17 @@ module _ (dag : Dag) (s : Settings) (f : Faultless dag s) where
 
     from_is : (p : Kind → Bool) → end_is dag p e.from ≡ p u.kind
     from_is p = end_kind dag f.apart p u e.from l.start l.from
+
+    firsts_shape : reads_files v.kind ≡ false
+    firsts_shape =
+        no_file v.kind (streams_into dag.edges v.name) (builds_into dag.edges v.name) (may_enter v l.end)
+        (either_way dag.edges v.name e l.edge (named e.to v.name (sym l.to)) e.build refl)
+
+    leaves : 0 < edges_from dag.edges u.name
+    leaves = counted (λ e. bytes_eq e.from u.name) dag.edges e l.edge (named e.from u.name (sym l.from))
+
+    last_shape : is_sink u.kind ≡ false
+    last_shape = no_sink u.kind (edges_from dag.edges u.name) (may_leave u l.start) leaves
 
     frames_shape : is_combine v.kind ≡ is_accumulate u.kind
     frames_shape =
@@ -349,9 +389,6 @@ module _ (dag : Dag) (s : Settings) (f : Faultless dag s) where
         join_by_build v.kind (streams_into dag.edges v.name) (builds_into dag.edges v.name) (may_enter v l.end)
         (counted (λ e. bytes_eq e.to v.name && e.build) dag.edges e l.edge (both_true (bytes_eq e.to v.name) e.build (named e.to v.name (sym l.to)) is))
 
-    leaves : 0 < edges_from dag.edges u.name
-    leaves = counted (λ e. bytes_eq e.from u.name) dag.edges e l.edge (named e.from u.name (sym l.from))
-
     events_shape : e.build ≡ false → takes_events v.kind ≡ true → sends_events u.kind ≡ true
     events_shape stream taker =
         let no = takes v.kind taker in
@@ -365,7 +402,7 @@ module _ (dag : Dag) (s : Settings) (f : Faultless dag s) where
       (u.0, v.0, record { edge = there; start = u.1; end = v.1; from = u.2; to = v.2 })
 
   edge_shape : EdgeShape dag
-  edge_shape = record { ends = ends_shape; frames = frames_shape; rows = rows_shape; sides = sides_shape; builds = builds_shape; events = events_shape }
+  edge_shape = record { ends = ends_shape; firsts = firsts_shape; last = last_shape; frames = frames_shape; rows = rows_shape; sides = sides_shape; builds = builds_shape; events = events_shape }
 
   -- a stream edge that goes where a partitioned build edge goes
   meets : (e : Edge) → e.build ≡ false → MeetsPartitions dag e → meets_partitions dag e ≡ true

@@ -9,7 +9,7 @@ use Rattle.jet_plan.specs.declared.dag.Dag.{Dag}
 use Rattle.jet_plan.specs.declared.settings.Settings.{Settings}
 use Rattle.jet_plan.specs.Along.{has_walk}
 use Rattle.jet_plan.specs.Ends.{sinks, builds_into, streams_into, edges_from}
-use Rattle.jet_plan.specs.Kinds.{is_side, is_join, is_accumulate, is_combine, is_sink, is_isolated, is_partitioned, is_broadcast}
+use Rattle.jet_plan.specs.Kinds.{reads_files, is_side, is_join, is_accumulate, is_combine, is_sink, is_isolated, is_partitioned, is_broadcast}
 use Rattle.jet_plan.specs.Names.{has_name}
 use Rattle.jet_plan.specs.Rings.{members}
 
@@ -45,17 +45,20 @@ pub record MeetsPartitions (dag : Dag) (e : Edge) : Type 0 where
   pub build : other.build ≡ true
   pub partitioned : is_partitioned other.route ≡ true
 
--- vertices: their names differ, one is the sink, a join has one build edge and at least one other, a combine vertex one edge, and all but the sink have a way out
+-- vertices: their names differ, one is the sink, a join has one build edge, a combine vertex one edge, all but those that read files have a way in that is no build edge, and all but the sink have a way out
 pub record VertexShape (dag : Dag) : Type 0 where
   pub names : AllPairs (λ u v. u.name ≢ v.name) dag.vertices
   pub sink : sinks dag.vertices ≡ 1
   pub joins : (v : Vertex) → Contains dag.vertices v → is_join v.kind ≡ true → (builds_into dag.edges v.name ≡ 1) × (0 < streams_into dag.edges v.name)
   pub combines : (v : Vertex) → Contains dag.vertices v → is_combine v.kind ≡ true → (streams_into dag.edges v.name ≡ 1) × (builds_into dag.edges v.name ≡ 0)
+  pub inputs : (v : Vertex) → Contains dag.vertices v → reads_files v.kind ≡ false → 0 < streams_into dag.edges v.name
   pub outputs : (v : Vertex) → Contains dag.vertices v → is_sink v.kind ≡ false → 0 < edges_from dag.edges v.name
 
--- edges: each leads from a vertex to a vertex; one into a combine vertex comes from an accumulate vertex and one into the sink from a combine vertex, and the other way round; side vertices have build edges alone, and they alone; a build edge goes into a join; and events come from what sends them
+-- edges: each leads from a vertex to a vertex, none into one that reads files and none out of the sink; one into a combine vertex comes from an accumulate vertex and one into the sink from a combine vertex, and the other way round; side vertices have build edges alone, and they alone; a build edge goes into a join; and events come from what sends them
 pub record EdgeShape (dag : Dag) : Type 0 where
   pub ends : (e : Edge) → Contains dag.edges e → (u : Vertex) × (v : Vertex) × Leads dag e u v
+  pub firsts : (e : Edge) (u v : Vertex) → Leads dag e u v → reads_files v.kind ≡ false
+  pub last : (e : Edge) (u v : Vertex) → Leads dag e u v → is_sink u.kind ≡ false
   pub frames : (e : Edge) (u v : Vertex) → Leads dag e u v → is_combine v.kind ≡ is_accumulate u.kind
   pub rows : (e : Edge) (u v : Vertex) → Leads dag e u v → is_sink v.kind ≡ is_combine u.kind
   pub sides : (e : Edge) (u v : Vertex) → Leads dag e u v → e.build ≡ is_side u.kind

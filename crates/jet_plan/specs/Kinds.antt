@@ -22,6 +22,12 @@ abbrev pub is_fed : Kind → Bool
 is_fed (Source files lag) = nat_lt 0 (length files)
 is_fed _ = false
 
+-- a vertex that reads files
+abbrev pub reads_files : Kind → Bool
+reads_files (Source files lag) = true
+reads_files (Side file) = true
+reads_files _ = false
+
 abbrev pub is_side : Kind → Bool
 is_side (Side file) = true
 is_side _ = false
