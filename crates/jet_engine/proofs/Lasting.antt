@@ -125,3 +125,32 @@ wired_still ts us txs sink w l h =
       not_drained = h.not_drained;
       few = h.few;
     }
+
+-- ---- the ends outside
+fed_by : (ts : List AnyTasklet) (a b : TxView Item) (p : QueueAt) → b.ring ≡ a.ring → IsFed ts a p → IsFed ts b p
+fed_by ts a b p same h = record { rx = h.rx; taker = h.taker; ring = h.ring ∙ sym same }
+
+drained_by : (ts : List AnyTasklet) (v u : conveyor.View) (p : DestAt) (q : ℕ) → u.rings ≡ v.rings → IsDrained ts p v q → IsDrained ts p u q
+drained_by ts v u p q same h =
+    let now : RxView Item = record { ring = h.rx.ring; received = conveyor.received_at u q; known = conveyor.known_at u q } in
+    record { tx = h.tx; rx = now; giver = h.giver; taker = record { ring = ap (λ (rs : List Ring). slice_get rs q) same ∙ h.taker.ring; received = refl; known = refl }; ring = h.ring }
+
+pub wired_outside : (ts : List AnyTasklet) (txs tys : List (TxView Item)) (sink drained : conveyor.View) (w : Wiring) → Placewise (λ (a b : TxView Item). b.ring ≡ a.ring) txs tys → drained.rings ≡ sink.rings
+    → IsWired ts txs sink w → IsWired ts tys drained w
+wired_outside ts txs tys sink drained w same rings h =
+    record {
+      links = h.links;
+      junctions = h.junctions;
+      feeds = record { count = same.count ∙ h.feeds.count; each = λ k d e lt. fed_by ts (get_or txs k d) (get_or tys k d) (get_or w.feeds.items k e) (outside k d (subst (λ (n : ℕ). k < n) (sym h.feeds.count) lt)) (h.feeds.each k d e lt) };
+      drains = record { each = λ k e lt. drained_by ts sink drained (get_or w.drains.items k e) k rings (h.drains.each k e lt) };
+      links_apart = h.links_apart;
+      junctions_apart = h.junctions_apart;
+      feeds_apart = h.feeds_apart;
+      drains_apart = h.drains_apart;
+      not_fed = h.not_fed;
+      not_drained = h.not_drained;
+      few = h.few;
+    }
+  where
+    outside : (k : ℕ) (d : TxView Item) → k < length txs → (get_or tys k d).ring ≡ (get_or txs k d).ring
+    outside k d lt = same.each k d lt

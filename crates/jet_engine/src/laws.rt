@@ -1,5 +1,5 @@
-// What turns leave of a wiring.
-ghost use Rattle.std.specs.Prelude.{List};
+// What turns leave of a wiring, and what giving and taking outside leaves of it.
+ghost use Rattle.std.specs.Prelude.{◌≡◌, List};
 ghost use Rattle.jet_conveyor.specs.Conveyor.{View};
 ghost use Rattle.jet_crew.specs.Epoch.{Placewise};
 ghost use Rattle.jet_items.specs.declared.item.Item.{Item};
@@ -15,4 +15,10 @@ ghost use Rattle.jet_engine.specs.Wiring.{IsWired};
 pub fn turns_keep_the_wiring()
     ensures rings { (t u : AnyTasklet) → AnyTurned t u → KeepsRings t u }
     ensures wired { (ts us : List AnyTasklet) → (txs : List (TxView Item)) → (sink : View) → (w : Wiring) → Placewise KeepsRings ts us → IsWired ts txs sink w → IsWired us txs sink w }
+{}
+
+/// A law: giving into the rings of the files and taking from those of the sink leaves each end of its ring; and so what was
+/// wired is wired still.
+pub fn giving_and_taking_keep_the_wiring()
+    ensures { (ts : List AnyTasklet) → (txs tys : List (TxView Item)) → (sink drained : View) → (w : Wiring) → Placewise (λ a b. b.ring ≡ a.ring) txs tys → drained.rings ≡ sink.rings → IsWired ts txs sink w → IsWired ts tys drained w }
 {}

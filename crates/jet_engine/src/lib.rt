@@ -20,7 +20,7 @@ pub use drains::meet_drain;
 pub use feeds::meet_feed;
 pub use job::Job;
 pub use junctions::{Spares, meet_junction, meet_junctions};
-pub use laws::turns_keep_the_wiring;
+pub use laws::{giving_and_taking_keep_the_wiring, turns_keep_the_wiring};
 pub use links::meet_link_at;
 pub use places::{DestAt, Junction, LinkAt, QueueAt};
 pub use sweep::meet_all;

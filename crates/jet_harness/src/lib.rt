@@ -8,10 +8,12 @@
 mod channel;
 mod harness;
 mod laws;
+mod places;
 
 pub use channel::{Channel, Giver};
 pub use harness::Harness;
 pub use laws::{every_end_is_of_one_ring, every_ring_joins_its_two};
+pub use places::{channels, place_at_giver, place_at_taker};
 
 #[cfg(test)]
 mod tests;

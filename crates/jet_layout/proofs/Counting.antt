@@ -37,26 +37,26 @@ use Rattle.jet_layout.proofs.Ranges.{flat_map_more}
 
 -- ---- sums over the numbers below another
 
-length_flat : {X : Type 0} (f : ℕ → List X) (n : ℕ) → length (flat_map f (range_with_len 0 n)) ≡ sum_below n (λ k. length (f k))
+pub length_flat : {X : Type 0} (f : ℕ → List X) (n : ℕ) → length (flat_map f (range_with_len 0 n)) ≡ sum_below n (λ k. length (f k))
 length_flat f zero = refl
 length_flat f (suc n) =
     ap (λ k. length (flat_map f (range_with_len 0 k))) (sym (add-one n)) ∙ ap length (flat_map_more f n)
     ∙ length-append (flat_map f (range_with_len 0 n)) (f n) ∙ ap (λ k. k + length (f n)) (length_flat f n)
 
-sum_flat : {X : Type 0} (w : X → ℕ) (f : ℕ → List X) (n : ℕ) → sum_by w (flat_map f (range_with_len 0 n)) ≡ sum_below n (λ k. sum_by w (f k))
+pub sum_flat : {X : Type 0} (w : X → ℕ) (f : ℕ → List X) (n : ℕ) → sum_by w (flat_map f (range_with_len 0 n)) ≡ sum_below n (λ k. sum_by w (f k))
 sum_flat w f zero = refl
 sum_flat w f (suc n) =
     ap (λ k. sum_by w (flat_map f (range_with_len 0 k))) (sym (add-one n)) ∙ ap (sum_by w) (flat_map_more f n)
     ∙ sum_by-append w (flat_map f (range_with_len 0 n)) (f n) ∙ ap (λ k. k + sum_by w (f n)) (sum_flat w f n)
 
-same_sums : (f g : ℕ → ℕ) (n : ℕ) → ((k : ℕ) → f k ≡ g k) → sum_below n f ≡ sum_below n g
+pub same_sums : (f g : ℕ → ℕ) (n : ℕ) → ((k : ℕ) → f k ≡ g k) → sum_below n f ≡ sum_below n g
 same_sums f g zero h = refl
 same_sums f g (suc n) h = let a = same_sums f g n h in let b = h n in omega (arith, a, b)
 
 one_more_row : (m p : ℕ) → m * p + p ≡ suc m * p
 one_more_row m p = omega arith
 
-equal_parts : (c n : ℕ) → sum_below n (λ k. c) ≡ n * c
+pub equal_parts : (c n : ℕ) → sum_below n (λ k. c) ≡ n * c
 equal_parts c zero = omega arith
 equal_parts c (suc n) = let a = equal_parts c n in let b = one_more_row n c in omega (arith, a, b)
 
@@ -64,7 +64,7 @@ length_if : {X : Type 0} (b : Bool) (xs : List X) → length (if b then xs else 
 length_if true xs = refl
 length_if false xs = refl
 
-sum_if : {X : Type 0} (w : X → ℕ) (b : Bool) (xs : List X) → sum_by w (if b then xs else []) ≡ (if b then sum_by w xs else 0)
+pub sum_if : {X : Type 0} (w : X → ℕ) (b : Bool) (xs : List X) → sum_by w (if b then xs else []) ≡ (if b then sum_by w xs else 0)
 sum_if w true xs = refl
 sum_if w false xs = refl
 
@@ -125,10 +125,10 @@ length_local j m =
     ∙ times (is_isolated j.route) (count j.from m == 0) (count j.to m == 0) (count j.from m) (count j.to m) refl refl
 
 -- a ring into the sender of a link, and one out of its receiver
-abbrev into : Joint → ℕ → Link → ℕ → Wire
+abbrev pub into : Joint → ℕ → Link → ℕ → Wire
 into j number l i = record { giver = port j.from l.from i; taker = Input (record { task = number; number = 0 }) }
 
-abbrev out : Joint → ℕ → Link → ℕ → Wire
+abbrev pub out : Joint → ℕ → Link → ℕ → Wire
 out j number l k = record { giver = record { task = number + 1; number = 0 }; taker = taker j.to l.to k }
 
 length_link : (j : Joint) (number : ℕ) (l : Link) → length (link_wires j number l) ≡ link_size j l
@@ -177,7 +177,7 @@ length_links (l ∷ ls) =
 
 -- ---- edges, by the vertices at their ends
 
-none_fits : (b : Bool) (k n : ℕ) → nat_lt k n ≡ b → cond b (Some k) None ≡ None → n ≤ k
+pub none_fits : (b : Bool) (k n : ℕ) → nat_lt k n ≡ b → cond b (Some k) None ≡ None → n ≤ k
 none_fits true k n is h = absurd (cc h)
 none_fits false k n is h = grind (arith, nat_tests)
 

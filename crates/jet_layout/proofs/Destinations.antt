@@ -45,7 +45,7 @@ place_below : (members m k L : ℕ) → m < members → k < members → (k == m)
 place_below members m k L a b c d = grind (arith, nat_tests)
 
 -- a link to member 0
-link_to_first : (j : Joint) (m members : ℕ) → 0 < count j.from m → 0 < count j.to 0 → 0 < m → 0 < members → 0 < length (links_from j members m)
+pub link_to_first : (j : Joint) (m members : ℕ) → 0 < count j.from m → 0 < count j.to 0 → 0 < m → 0 < members → 0 < length (links_from j members m)
 link_to_first j m zero from to other some = absurd (omega (arith, some))
 link_to_first j m (suc n) from to other some =
     let one = link_is j m 0 from to in
@@ -70,10 +70,10 @@ not_is true h = absurd (cc h)
 not_is false h = refl
 
 -- where each member has as many consumers, and where there is one in all
-each : (e : EdgeEnd) (m : ℕ) → e.single ≡ false → count e m ≡ e.parallelism
+pub each : (e : EdgeEnd) (m : ℕ) → e.single ≡ false → count e m ≡ e.parallelism
 each e m s = ap (λ b. if b then (if m == 0 then 1 else 0) else e.parallelism) s
 
-first : (e : EdgeEnd) → e.single ≡ true → count e 0 ≡ 1
+pub first : (e : EdgeEnd) → e.single ≡ true → count e 0 ≡ 1
 first e s = ap (λ b. if b then (if 0 == 0 then 1 else 0) else e.parallelism) s
 
 some_single : (members : ℕ) (j : Joint) (across : Bool) (m : ℕ) → 0 < members → HasOutputs j across m → j.to.single ≡ true → 0 < count j.to m + (if across then length (links_from j members m) else 0)

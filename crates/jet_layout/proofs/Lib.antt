@@ -3,6 +3,14 @@ pub mod Counts
 pub mod Destinations
 pub mod Drafts
 pub mod Ends
+pub mod Facts
+pub mod Giving
+pub mod Hearing
+pub mod Joining
 pub mod Numbering
+pub mod Places
 pub mod Ranges
+pub mod Standing
+pub mod Summing
+pub mod Wired
 pub mod Wiring

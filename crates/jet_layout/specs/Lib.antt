@@ -4,6 +4,8 @@ pub mod Files
 pub mod Joints
 pub mod Layouts
 pub mod Links
+pub mod Places
+pub mod Ports
 pub mod Tables
 pub mod Tasks
 pub mod Wires

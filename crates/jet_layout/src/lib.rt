@@ -21,7 +21,10 @@ mod wires;
 
 pub use end::EdgeEnd;
 pub use joint::Joint;
-pub use laws::layouts_have_what_is_counted;
+pub use laws::{
+    layouts_have_what_is_counted, links_have_their_wires, outputs_have_their_wires,
+    tasks_have_their_places, wires_have_their_ports,
+};
 pub use layout::Layout;
 pub use table::partition_table;
 pub use task::{Instance, Link, Task};

@@ -12,7 +12,7 @@ use Rattle.jet_worker.specs.CheckText.{Checks}
 use Rattle.jet_worker.specs.Calls.{Calling}
 use Rattle.jet_worker.specs.Checked.{AreThere, CheckStops, IsChecked, numbered}
 use Rattle.jet_worker.specs.inner.FileChecks.{HasChecked, StopsChecking}
-use Rattle.jet_worker.specs.inner.Opening.{AreApart, AreNew, HasLag, HasOpened, Opened, StopsOpening, pair_of}
+use Rattle.jet_worker.specs.Opening.{AreApart, AreNew, HasLag, HasOpened, Opened, StopsOpening, pair_of}
 use Rattle.jet_worker.specs.Stopping.{IsNoBadLine, OpenOutcome, Outcome}
 use Rattle.jet_worker.specs.declared.stop.Stop.{Stop}
 use Rattle.jet_worker.specs.declared.stop.Stop.TheVariants.{NoMemory}

@@ -13,7 +13,7 @@ use Rattle.jet_worker.specs.Calls.{Calling, ReadsOrWrites, Turn, opened_by, open
 use Rattle.jet_worker.specs.CheckText.{Checks, check_line, first_bad}
 use Rattle.jet_worker.specs.Checked.{AreThere, AreWanted, IsChecked, IsGood, IsRead, IsTurnOf, check_lines, content_of, numbered}
 use Rattle.jet_worker.specs.inner.FileChecks.{HasChecked}
-use Rattle.jet_worker.specs.inner.Opening.{AreApart, AreNew, HasOpened, IsUnread, Opened, opening_of, pair_of}
+use Rattle.jet_worker.specs.Opening.{AreApart, AreNew, HasOpened, IsUnread, Opened, opening_of, pair_of}
 use Rattle.jet_worker.proofs.CallLaws.{HasPieces, opened_by_both, turns_more}
 use Rattle.jet_worker.proofs.OpenLemmas.{all_left, all_right, pair_at}
 use Rattle.jet_worker.proofs.OrderLemmas.{at_place, turns_order}

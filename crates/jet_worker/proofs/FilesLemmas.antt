@@ -17,7 +17,7 @@ use Rattle.jet_plan.specs.Kinds.{file_count}
 use Rattle.jet_plan.specs.SettingRanges.{has_wrong_lag, is_between}
 use Rattle.jet_plan.specs.Sizes.{files}
 use Rattle.jet_flow.specs.DataFiles.{SourceFile, SideFile, data_files, sides_of, sources_of}
-use Rattle.jet_worker.specs.inner.Opening.{HasLag}
+use Rattle.jet_worker.specs.Opening.{HasLag}
 use Rattle.jet_worker.proofs.CountLemmas.{sum_first}
 use Rattle.jet_worker.proofs.ValidLemmas.{In, none_at, none_each, not_mapped, not_not, ranges_none, second, to_le}
 

@@ -11,7 +11,7 @@ use Rattle.jet_worker.specs.CheckText.{Checks}
 use Rattle.jet_worker.specs.Calls.{opening_call}
 use Rattle.jet_worker.specs.Checked.{LacksSome}
 use Rattle.jet_worker.specs.Feeding.{FailsAt}
-use Rattle.jet_worker.specs.inner.Opening.{AreApart, AreNew, HasOpened, IsNextOpening, IsUnread, Opened, StopsOpening, file_in, opening_of, pair_of}
+use Rattle.jet_worker.specs.Opening.{AreApart, AreNew, HasOpened, IsNextOpening, IsUnread, Opened, StopsOpening, file_in, opening_of, pair_of}
 use Rattle.jet_worker.specs.Stopping.{CauseOfStop, LastIs, LastOf, OpenOutcome}
 use Rattle.jet_worker.specs.declared.files.DataFile.{DataFile as RustFile}
 use Rattle.jet_worker.specs.declared.stop.Call.TheVariants.{Open}

@@ -10,7 +10,7 @@ use Rattle.jet_flow.specs.DataFiles.{DataFile, file_name}
 use Rattle.jet_worker.specs.Calls.{IsCallOf, IsEnd, ReadsOrWrites, OpensInOrder, ReadsInOrder, Turn, opened_by, opening_call, part_place, turn_calls}
 use Rattle.jet_worker.specs.CheckText.{Checks}
 use Rattle.jet_worker.specs.Checked.{names_of, numbered}
-use Rattle.jet_worker.specs.inner.Opening.{IsNextOpening, Opened, opening_of, pair_of}
+use Rattle.jet_worker.specs.Opening.{IsNextOpening, Opened, opening_of, pair_of}
 use Rattle.jet_worker.specs.Stopping.{LastIs}
 use Rattle.jet_worker.specs.declared.stop.Call.{Call}
 use Rattle.jet_worker.specs.declared.stop.Call.TheVariants.{Open}

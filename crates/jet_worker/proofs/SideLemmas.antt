@@ -13,7 +13,8 @@ use Rattle.jet_lines.specs.declared.fault.LineFault.{LineFault}
 use Rattle.jet_lines.specs.declared.fault.LineFault.TheVariants.{KeyFull}
 use Rattle.jet_flow.specs.SideFiles.{first_bad_row, most_rows, reading_after, row_after, rows_of, rows_with, side_readings}
 use Rattle.jet_worker.specs.inner.LineLaws.{SideLaws}
-use Rattle.jet_worker.specs.inner.Tallying.{CountsRow, RefusesRow, RefusesSideLine, SideTallied, TakesSideLine, rows_at, side_after, side_rows}
+use Rattle.jet_worker.specs.inner.Tallying.{CountsRow, RefusesRow, RefusesSideLine, SideTallied, TakesSideLine, rows_at}
+use Rattle.jet_worker.specs.SideRows.{side_after, side_rows}
 use Rattle.jet_worker.specs.declared.side_tally.SideTally.{SideTally}
 use Rattle.jet_worker.proofs.CountLemmas.{count_last}
 

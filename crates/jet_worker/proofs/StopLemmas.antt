@@ -14,7 +14,7 @@ use Rattle.jet_worker.specs.Calls.{Calling, EndsFailed, ReadsInOrder, Turn, open
 use Rattle.jet_worker.specs.CheckText.{Checks, check_line, first_bad}
 use Rattle.jet_worker.specs.Checked.{AreWanted, BeginsTurn, CheckStops, HaveTurns, IsBadLine, IsBegun, IsGood, WhyStopped, check_lines, content_of, names_of, numbered}
 use Rattle.jet_worker.specs.inner.FileChecks.{IsFrontOf, StopsChecking}
-use Rattle.jet_worker.specs.inner.Opening.{IsUnread, Opened, StopsOpening, opening_of, pair_of}
+use Rattle.jet_worker.specs.Opening.{IsUnread, Opened, StopsOpening, opening_of, pair_of}
 use Rattle.jet_worker.specs.Stopping.{IsCallIn, IsNoBadLine, LastIs}
 use Rattle.jet_worker.specs.declared.stop.Call.{Call}
 use Rattle.jet_worker.specs.declared.stop.Spot.{Spot}

@@ -21,7 +21,8 @@ use Rattle.jet_flow.specs.DataFiles.{DataFile, SourceFile, SideFile}
 use Rattle.jet_flow.specs.SideFiles.{reading_after}
 use Rattle.jet_worker.specs.CheckText.{Checks, check_line, first_bad}
 use Rattle.jet_worker.specs.inner.LineLaws.{LineLaws}
-use Rattle.jet_worker.specs.inner.Tallying.{RefusesLine, RefusesSideLine, Tallied, fault_in, next_fault, side_rows}
+use Rattle.jet_worker.specs.inner.Tallying.{RefusesLine, RefusesSideLine, Tallied, fault_in, next_fault}
+use Rattle.jet_worker.specs.SideRows.{side_rows}
 use Rattle.jet_worker.specs.declared.side_tally.SideTally.{SideTally}
 use Rattle.jet_worker.specs.declared.tally.Tally.{Tally}
 use Rattle.jet_worker.specs.declared.tally.Tally.TheVariants.{Source, Side}

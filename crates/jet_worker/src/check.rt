@@ -8,7 +8,7 @@ ghost use Rattle.jet_worker.specs.Calls.{Calling};
 ghost use Rattle.jet_worker.specs.CheckText.{Checks};
 ghost use Rattle.jet_worker.specs.Checked.{CheckStops, IsCheckOf, IsChecked, LacksSome};
 ghost use Rattle.jet_worker.specs.inner.FileChecks.{ChecksFile};
-ghost use Rattle.jet_worker.specs.inner.Opening.{HasLag, file_in};
+ghost use Rattle.jet_worker.specs.Opening.{HasLag, file_in};
 ghost use Rattle.jet_worker.specs.Stopping.{IsForOutside, OpenOutcome, Outcome};
 
 use crate::Stop;
@@ -23,11 +23,13 @@ use jet_flow::grain;
 use jet_plan::Plan;
 use std::alloc::Global;
 
-// The most lines of a file, and the unit of the watermarks in that of the timestamps.
+/// The most lines of a file, and the unit of the watermarks in that of the timestamps.
 #[derive(Clone, Copy)]
-pub(crate) struct Limits {
-    most: u32,
-    unit: i64,
+pub struct Limits {
+    /// The most lines.
+    pub most: u32,
+    /// The unit.
+    pub unit: i64,
 }
 
 /// Checks all lines that a job reads: opens all its files in the order of their numbers, reads each to its end in that
@@ -54,8 +56,8 @@ pub fn check_files<O: Outside>(alloc: Global, plan: &Plan, out: &mut O) -> Resul
     }
 }
 
-// The limits of a plan.
-fn limits_of(plan: &Plan) -> Limits
+/// The limits of a plan.
+pub fn limits_of(plan: &Plan) -> Limits
     ensures most { plan.now.settings.lines ≡ pos result.most }
     ensures most_bound { result.most ≤ most_lines }
     ensures unit { (unit : ℕ) → IsGrain plan.now.dag unit → result.unit ≡ pos unit }

@@ -1,14 +1,14 @@
 // The files that a job reads, by their numbers.
 ghost use Rattle.std.specs.Prelude.{◌≡◌, ◌++◌, map, flat_map, OnOk, IfOk};
 ghost use Rattle.jet_flow.specs.DataFiles.{SourceFile, data_files, file_name, sides_of, sources_of};
-ghost use Rattle.jet_worker.specs.inner.Opening.{file_in};
+ghost use Rattle.jet_worker.specs.Opening.{file_in};
 
 use jet_plan::{Dag, Kind, Text, Vertex};
 use std::alloc::{AllocError, Global};
 
 /// A file that a job reads.
 #[derive(Clone, Copy)]
-pub(crate) enum DataFile<'a> {
+pub enum DataFile<'a> {
     /// A file of a source. `lag` is the source's, in the unit of the timestamps.
     Source { name: &'a [u8], lag: i64 },
     /// The file of a side vertex.
@@ -17,7 +17,7 @@ pub(crate) enum DataFile<'a> {
 
 impl<'a> DataFile<'a> {
     /// The name of the file.
-    pub(crate) fn name(&self) -> &'a [u8]
+    pub fn name(&self) -> &'a [u8]
         ensures { result.now ≡ file_name (file_in self.now) }
     {
         match self {
@@ -28,7 +28,7 @@ impl<'a> DataFile<'a> {
 }
 
 /// The files of a job in the order of their numbers: those of the sources, then the side files.
-pub(crate) fn data_files<'a>(alloc: Global, dag: &'a Dag) -> Result<Vec<DataFile<'a>>, AllocError>
+pub fn data_files<'a>(alloc: Global, dag: &'a Dag) -> Result<Vec<DataFile<'a>>, AllocError>
     ensures { IfOk result (λ files. map file_in files.items ≡ data_files dag.now) }
 {
     let mut files = Vec::new(alloc);

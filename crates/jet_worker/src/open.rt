@@ -3,7 +3,7 @@ ghost use Rattle.std.specs.Prelude.{◌≡◌, ◌≤◌, ◌++◌, ◌∷◌, [
 ghost use Rattle.jet_file.specs.Outside.{WhereTold};
 ghost use Rattle.jet_worker.specs.CheckText.{Checks};
 ghost use Rattle.jet_worker.specs.Checked.{LacksSome, numbered};
-ghost use Rattle.jet_worker.specs.inner.Opening.{AreNew, HasOpened, StopsOpening, file_in, opened_in, pair_of};
+ghost use Rattle.jet_worker.specs.Opening.{AreNew, HasOpened, StopsOpening, file_in, opened_in, pair_of};
 ghost use Rattle.jet_worker.specs.Stopping.{IsForOutside, IsNoBadLine, OpenOutcome};
 
 use crate::feed::open_data;
@@ -14,16 +14,16 @@ use std::alloc::Global;
 
 /// A file that was opened.
 #[derive(Clone, Copy)]
-pub(crate) struct OpenFile<'a> {
+pub struct OpenFile<'a> {
     /// Its number among the files of the job.
-    pub(crate) part: u16,
-    pub(crate) file: DataFile<'a>,
+    pub part: u16,
+    pub file: DataFile<'a>,
     /// The number under which it is open.
-    pub(crate) at: FileNo,
+    pub at: FileNo,
 }
 
 /// Opens all files in the order of their numbers.
-pub(crate) fn open_all<'a, O: Outside>(
+pub fn open_all<'a, O: Outside>(
     alloc: Global,
     files: &[DataFile<'a>],
     out: &mut O,

@@ -3,7 +3,7 @@ ghost use Rattle.std.specs.Prelude.{◌≡◌, ◌≤◌, ◌<◌, ◌-◌, ◌�
 ghost use Rattle.jet_lines.specs.Lines.{lines_of};
 ghost use Rattle.jet_flow.specs.DataFiles.{DataFile as JobFile};
 ghost use Rattle.jet_worker.specs.CheckText.{Checks, check_line};
-ghost use Rattle.jet_worker.specs.inner.Opening.{HasLag, file_in};
+ghost use Rattle.jet_worker.specs.Opening.{HasLag, file_in};
 ghost use Rattle.jet_worker.specs.inner.Tallying.{IsSmall, RefusesLine, TakesLine, Tallied};
 
 use crate::files::DataFile;

@@ -20,6 +20,7 @@ use Rattle.jet_lines.specs.declared.fault.LineFault.TheVariants.{KeyFull}
 use Rattle.jet_flow.specs.DataFiles.{DataFile, SourceFile, SideFile}
 use Rattle.jet_flow.specs.SideFiles.{most_rows, reading_after, rows_with}
 use Rattle.jet_worker.specs.CheckText.{Checks, behind_count}
+use Rattle.jet_worker.specs.SideRows.{side_after, side_rows}
 use Rattle.jet_worker.specs.declared.side_tally.SideTally.{SideTally}
 use Rattle.jet_worker.specs.declared.source_tally.SourceTally.{SourceTally}
 use Rattle.jet_worker.specs.declared.stop.Stop.{Stop}
@@ -41,15 +42,6 @@ pub record SourceTallied (most p : ℕ) (lag unit : ℤ) (given : List (List ℕ
   pub lines : All (λ e. e.line < length given + 1) (events_in most p given)
   pub events : t.events ≡ length (events_in most p given)
   pub behind : t.behind ≡ behind_count lag unit (events_in most p given)
-
--- what lines of a side file hold, each behind the rows before it
-abbrev pub side_after : List SideValue → List (Result (Option SideValue) LineFault) → List (Result (Option SideValue) LineFault)
-side_after rows [] = []
-side_after rows (r ∷ readings) = reading_after rows r ∷ side_after (rows ++ option_to_list (item_of r)) readings
-
--- the rows of lines, each by itself
-abbrev pub side_rows : ℕ → List (List ℕ) → List SideValue
-side_rows most given = filter_map item_of (readings_in side_line most given)
 
 -- how many rows of a key were counted
 abbrev pub rows_at : List ℕ → SideTally → ℕ

@@ -6,7 +6,7 @@ use Rattle.jet_file.specs.Outside.{WhereTold}
 use Rattle.jet_flow.specs.DataFiles.{SideFile}
 use Rattle.jet_worker.specs.CheckText.{Checks}
 use Rattle.jet_worker.specs.inner.FileChecks.{HasChecked, StopsChecking}
-use Rattle.jet_worker.specs.inner.Opening.{AreNew, HasLag, HasOpened, Opened, file_in, opened_in, pair_of}
+use Rattle.jet_worker.specs.Opening.{AreNew, HasLag, HasOpened, Opened, file_in, opened_in, pair_of}
 use Rattle.jet_worker.specs.declared.open.OpenFile.{OpenFile}
 use Rattle.jet_worker.proofs.AllLemmas.{checking_ends, checking_more, checking_starts, checking_stops, lag_at, opening_stopped, outcome_then}
 use Rattle.jet_worker.proofs.check.check_all.Goals as goal

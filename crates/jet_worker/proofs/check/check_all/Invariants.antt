@@ -1,5 +1,5 @@
 use Rattle.std.proofs.Common.{map}
-use Rattle.jet_worker.specs.inner.Opening.{file_in, opened_in}
+use Rattle.jet_worker.specs.Opening.{file_in, opened_in}
 use Rattle.jet_worker.proofs.AllLemmas.{Checking}
 use Rattle.jet_worker.proofs.check.check_all.Given as goal
 

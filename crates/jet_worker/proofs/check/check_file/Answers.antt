@@ -1,6 +1,6 @@
 use Rattle.std.proofs.Common.{rules, ◌∙◌, w64, to_z-of_z, FitsSigned}
 use Rattle.std.proofs.lemmas.Result.{err_from_is_err_and}
-use Rattle.jet_worker.specs.inner.Opening.{file_in}
+use Rattle.jet_worker.specs.Opening.{file_in}
 use Rattle.jet_worker.proofs.CheckLemmas.{goes_text, goes_unread, goes_untold}
 use Rattle.jet_worker.proofs.check.check_file.Goals as goal
 

@@ -6,7 +6,7 @@ use Rattle.jet_flow.specs.DataFiles.{data_files}
 use Rattle.jet_worker.specs.Calls.{Calling}
 use Rattle.jet_worker.specs.CheckText.{Checks}
 use Rattle.jet_worker.specs.Checked.{CheckStops, IsCheckOf, IsChecked}
-use Rattle.jet_worker.specs.inner.Opening.{HasLag, file_in}
+use Rattle.jet_worker.specs.Opening.{HasLag, file_in}
 use Rattle.jet_worker.proofs.AllLemmas.{goes_nowhere, if_err, on_ok}
 use Rattle.jet_worker.proofs.FilesLemmas.{files_within, lags_within}
 use Rattle.jet_worker.proofs.check.check_files.Goals as goal

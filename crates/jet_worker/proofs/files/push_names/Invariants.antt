@@ -1,6 +1,6 @@
 use Rattle.std.proofs.Common.{◌≡◌, ◌++◌, map, take}
 use Rattle.jet_flow.specs.DataFiles.{SourceFile}
-use Rattle.jet_worker.specs.inner.Opening.{file_in}
+use Rattle.jet_worker.specs.Opening.{file_in}
 use Rattle.jet_worker.proofs.files.push_names.Given as goal
 
 abbrev pub invariant-loop-name : goal.invariant-loop-name

@@ -5,7 +5,7 @@ use Rattle.std.proofs.lemmas.Result.{err_from_is_err_and}
 use Rattle.jet_file.specs.Outside.{WhereTold, LacksFile, Opening, OpensFile}
 use Rattle.jet_flow.specs.DataFiles.{SideFile}
 use Rattle.jet_worker.specs.Feeding.{FailsAt}
-use Rattle.jet_worker.specs.inner.Opening.{Opened, file_in, opened_in}
+use Rattle.jet_worker.specs.Opening.{Opened, file_in, opened_in}
 use Rattle.jet_worker.specs.declared.stop.Call.TheVariants.{Open}
 use Rattle.jet_worker.specs.declared.stop.Spot.TheVariants.{Part}
 use Rattle.jet_worker.proofs.OpenLemmas.{SoFar, file_at, file_more, lacks_file, short_in, stops_at_file, stops_at_keep, whole}

@@ -1,5 +1,5 @@
 use Rattle.std.proofs.Common.{map}
-use Rattle.jet_worker.specs.inner.Opening.{file_in, opened_in}
+use Rattle.jet_worker.specs.Opening.{file_in, opened_in}
 use Rattle.jet_worker.proofs.OpenLemmas.{SoFar}
 use Rattle.jet_worker.proofs.open.open_all.Given as goal
 

@@ -1,5 +1,5 @@
 use Rattle.std.proofs.Common.{rules, [], ℕ, ℤ, sym, subst, w64, to_z-of_z, FitsSigned}
-use Rattle.jet_worker.specs.inner.Opening.{file_in}
+use Rattle.jet_worker.specs.Opening.{file_in}
 use Rattle.jet_worker.specs.inner.Tallying.{Tallied, SourceTallied}
 use Rattle.jet_worker.specs.declared.files.DataFile.{DataFile}
 use Rattle.jet_worker.specs.declared.tally.Tally.TheVariants.{Source, Side}
