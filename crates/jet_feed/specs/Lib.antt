@@ -1,0 +1,5 @@
+pub mod Bodies
+pub mod Counted
+pub mod Fed
+pub mod FileItems
+pub mod Leaves
