@@ -1,3 +1,4 @@
+pub mod AllMade
 pub mod EachLink
 pub mod EachRing
 pub mod Faults

@@ -5,3 +5,4 @@ pub mod Making
 pub mod Ranges
 pub mod Sites
 pub mod Windows
+pub mod inner

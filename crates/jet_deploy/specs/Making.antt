@@ -1,5 +1,5 @@
 -- The tasklets of a job, each made over the ends of rings that are there for it.
-use Rattle.std.specs.Prelude.{◌≡◌, ℕ, ◌+◌, ◌≤◌, ◌<◌, Bool, false, bytes_eq, ℤ, List, [], ◌∷◌, map, length, Some, slice_get, if◌then◌else◌}
+use Rattle.std.specs.Prelude.{◌≡◌, ◌≢◌, ℕ, ◌+◌, ◌≤◌, ◌<◌, Bool, false, bytes_eq, ℤ, List, [], ◌∷◌, map, length, Some, slice_get, if◌then◌else◌}
 use Rattle.std.specs.Option.{option_map_or}
 use Rattle.jet_boxes.specs.declared.port.Port.{Port}
 use Rattle.jet_boxes.specs.declared.port.Port.TheVariants.{Stream, Build}
@@ -9,6 +9,8 @@ use Rattle.jet_harness.specs.Harness.{txs_of, rxs_of, fresh_tx, fresh_rx}
 use Rattle.jet_layout.specs.declared.joint.Joint.{Joint}
 use Rattle.jet_layout.specs.declared.task.Instance.{Instance}
 use Rattle.jet_layout.specs.declared.task.Link.{Link}
+use Rattle.jet_layout.specs.declared.task.Task.{Task}
+use Rattle.jet_layout.specs.declared.task.Task.TheVariants.{Run, Send, Receive}
 use Rattle.jet_layout.specs.declared.wire.Taker.TheVariants.{Sink}
 use Rattle.jet_layout.specs.Ports.{joints_out}
 use Rattle.jet_plan.specs.declared.dag.Dag.{Dag}
@@ -19,6 +21,8 @@ use Rattle.jet_plan.specs.Kinds.{reads_files, is_sink}
 use Rattle.jet_ring.specs.Ring.{Ring}
 use Rattle.jet_run.specs.Flows.{IsFor}
 use Rattle.jet_tasklet.specs.declared.any.AnyTasklet.{AnyTasklet}
+use Rattle.jet_tasklet.specs.Any.{AnyKeeps}
+use Rattle.jet_tasklet.specs.Meeting.{AreLinkEnds}
 use Rattle.jet_tasklet.specs.Outputs.{ready}
 use Rattle.jet_tasklet.specs.Views.{ins, outs}
 use Rattle.jet_deploy.specs.Ends.{input_at, output_at, input_over, inputs_from, router_over, outputs_from, Fits, FitAll}
@@ -65,6 +69,18 @@ pub record IsReceiving (g : Ground) (h : Harness) (k : ℕ) (l : Link) (t : AnyT
   pub inputs : ins t ≡ []
   pub outputs : outs t ≡ ready (router_over g.members joint false l.to (txs_of h (output_at k 0))) ∷ []
 
+-- it is the tasklet k of a layout
+abbrev pub IsMade : Ground → Harness → ℕ → Task → AnyTasklet → Type 0
+IsMade g h k (Run i) t = IsInstance g h k i t
+IsMade g h k (Send l) t = IsSending h k t
+IsMade g h k (Receive l) t = IsReceiving g h k l t
+
+-- each tasklet of a layout is made, and has taken and given nothing; what sends over a link and what receives from it are the two ends of one
+pub record AreMade (g : Ground) (h : Harness) (tasks : List Task) (ts : List AnyTasklet) : Type 0 where
+  pub made : (k : ℕ) (task : Task) (t : AnyTasklet) → slice_get tasks k ≡ Some task → slice_get ts k ≡ Some t → IsMade g h k task t
+  pub keeps : (k : ℕ) (t : AnyTasklet) → slice_get ts k ≡ Some t → AnyKeeps t [] []
+  pub linked : (k : ℕ) (l : Link) (t u : AnyTasklet) → slice_get tasks k ≡ Some (Send l) → slice_get ts k ≡ Some t → slice_get ts (k + 1) ≡ Some u → AreLinkEnds t u
+
 -- nothing went through the rings whose ends are there for the tasklet k, and they are not many
 pub record HasFreshEnds (h : Harness) (k : ℕ) : Type 0 where
   pub rxs : (n : ℕ) → (rs : List Ring) × (rxs_of h (input_at k n) ≡ map fresh_rx rs) × (length rs ≤ 2000000)
@@ -96,3 +112,11 @@ pub record CanLink (g : Ground) (h : Harness) (k : ℕ) (l : Link) : Type 0 wher
   pub fit : Fits g.members joint false l.to (length (txs_of h (output_at (k + 1) 0)))
   pub from : HasFreshEnds h k
   pub to : HasFreshEnds h (k + 1)
+
+-- All tasks can be made: what receives from a link stands behind what sends over it, and the ends that are there fit each of them.
+pub record CanMake (g : Ground) (h : Harness) (tasks : List Task) : Type 0 where
+  pub runs : (k : ℕ) (i : Instance) → slice_get tasks k ≡ Some (Run i) → CanRun g h k i
+  pub links : (k : ℕ) (l : Link) → slice_get tasks k ≡ Some (Send l) → CanLink g h k l
+  pub behind : (k : ℕ) (l : Link) → slice_get tasks k ≡ Some (Send l) → slice_get tasks (k + 1) ≡ Some (Receive l)
+  pub before : (k : ℕ) (l : Link) → slice_get tasks (k + 1) ≡ Some (Receive l) → slice_get tasks k ≡ Some (Send l)
+  pub first : (l : Link) → slice_get tasks 0 ≢ Some (Receive l)

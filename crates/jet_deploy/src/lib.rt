@@ -3,14 +3,15 @@
 //! `inputs` and `outputs` make the conveyors and routers of a tasklet over the ends of rings that a harness has for it
 //! (`specs/Ends.antt`). `tasklet_of` makes the tasklet of an instance of a vertex over them, with the processor that the vertex
 //! asks for (`specs/Instances.antt`). The two vertices of a window are found by the edge between them (`specs/Windows.antt`).
-//! `instance_tasklet` and `link_tasklets` make the tasklets of a layout so, each with all its inputs and outputs
-//! (`specs/Making.antt`), and `wiring` notes where the ends of each ring and link stand (`specs/Sites.antt`).
+//! `instance_tasklet` and `link_tasklets` make those of a layout so, each with all its inputs and outputs, `tasklets` makes all
+//! of them in their order (`specs/Making.antt`), and `wiring` notes where the ends of each ring and link stand (`specs/Sites.antt`).
 #![tactic(auto)]
 
 mod ends;
 mod instance;
 mod instances;
 mod laws;
+mod layouts;
 mod links;
 mod processor;
 mod sites;
@@ -21,5 +22,6 @@ pub use ends::{inputs, outputs, router};
 pub use instance::tasklet_of;
 pub use instances::{Ground, instance_tasklet};
 pub use laws::valid_vertices_keep_their_ranges;
+pub use layouts::tasklets;
 pub use links::link_tasklets;
 pub use sites::{link_places, wiring};
