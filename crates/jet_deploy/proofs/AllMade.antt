@@ -133,9 +133,9 @@ module _ (g : Ground) (h : Harness) (tasks : List Task) (ts : List AnyTasklet) (
             | inr new ↦ subst (λ (v : AnyTasklet). AreLinkEnds s v) new.1 (linked k l s new.0 here old)
           ]
           | inr last ↦
-            let far : length (ts ++ t ∷ []) ≡ length ts + 1 = simp length-append in
-            let none = slice_get_past (ts ++ t ∷ []) (k + 1) (let e = last.0 in omega (arith, far, e)) in
-            absurd (cc (none, next))
+              let far : length (ts ++ t ∷ []) ≡ length ts + 1 = simp length-append in
+              let none = slice_get_past (ts ++ t ∷ []) (k + 1) (let e = last.0 in omega (arith, far, e)) in
+              absurd (cc (none, next))
         ];
       }
 

@@ -36,7 +36,11 @@ fn vertex_ports(alloc: Global, dag: &Dag, vertex: &Vertex) -> Result<Vec<Port>, 
     }
     for edge in dag.edges.items() {
         if edge.to == vertex.name {
-            ports.push(if edge.build { Port::Build } else { Port::Stream })?;
+            ports.push(if edge.build {
+                Port::Build
+            } else {
+                Port::Stream
+            })?;
         }
     }
     Ok(ports)

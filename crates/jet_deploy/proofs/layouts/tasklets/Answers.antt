@@ -58,7 +58,6 @@ returns-clause-count c =
     let all = ends (ground_of c.args.ground) c.args.harness.now c.args.tasks.now c.requires.can c.loop-number.number c.loop-number.tasklets.items c.loop-number.harness (record { count = c.loop-number.invariant.count; made = c.loop-number.invariant.made; rest = c.loop-number.invariant.rest }) past c.loop-number.auto.number-end in
     omega (arith, all)
 
-
 pub returns-clause-made : goal.returns-clause-made
 returns-clause-made c = c.loop-number.invariant.made
 
