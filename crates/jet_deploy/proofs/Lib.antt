@@ -1,8 +1,16 @@
 pub mod AllMade
+pub mod Dealt
+pub mod Deploying
 pub mod EachLink
 pub mod EachRing
 pub mod Faults
+pub mod FileCount
 pub mod Fresh
-pub mod Windows
+pub mod FreshEnds
 pub mod Linking
 pub mod Making
+pub mod Outsides
+pub mod Placing
+pub mod TaskOrder
+pub mod Windows
+pub mod Wired

@@ -1,3 +1,5 @@
+pub mod Dealing
+pub mod Deployed
 pub mod Ends
 pub mod Grounds
 pub mod Instances

@@ -5,22 +5,29 @@
 //! asks for (`specs/Instances.antt`). The two vertices of a window are found by the edge between them (`specs/Windows.antt`).
 //! `instance_tasklet` and `link_tasklets` make those of a layout so, each with all its inputs and outputs, `tasklets` makes all
 //! of them in their order (`specs/Making.antt`), and `wiring` notes where the ends of each ring and link stand (`specs/Sites.antt`).
+//! `deal` gives the tasklets of each member to its workers in turn, and `deploy` makes the whole job (`specs/Deployed.antt`).
 #![tactic(auto)]
 
+mod dealing;
 mod ends;
 mod instance;
 mod instances;
+mod jobs;
 mod laws;
 mod layouts;
 mod links;
 mod processor;
 mod sites;
+mod spare;
+mod standing;
 mod take;
 mod window;
 
+pub use dealing::{Crew, deal};
 pub use ends::{inputs, outputs, router};
 pub use instance::tasklet_of;
 pub use instances::{Ground, instance_tasklet};
+pub use jobs::deploy;
 pub use laws::valid_vertices_keep_their_ranges;
 pub use layouts::tasklets;
 pub use links::link_tasklets;

@@ -3,6 +3,7 @@ use Rattle.std.proofs.Common.{arith, ◌≡◌, ◌∙◌, ◌<◌, ◌∷◌, [
 use Rattle.std.specs.Prelude.{Some, option_map, slice_get, count_by}
 use Rattle.std.proofs.lemmas.Option.{slice_get-map, slice_get_within, get_or_from_slice_get}
 use Rattle.std.proofs.lemmas.List.{length-map}
+use Rattle.std.proofs.Math.Seq.{take-length}
 use Rattle.jet_ring.specs.Ring.{Ring}
 use Rattle.jet_layout.specs.declared.wire.Taker.{Taker}
 use Rattle.jet_harness.specs.declared.channel.Channel.{Channel}
@@ -36,10 +37,21 @@ module _ (cs : List Channel) (capacity : ℕ) (rings : List Ring) (h : Harness) 
       let r = there_is rings n lt in
       (r.0, r.1, ap (λ (x : Ring). x.cap) (sym (get_or_from_slice_get rings n r.0 r.0 r.1)) ∙ j.sizes n r.0 lt, placed n c r.0 at r.1)
 
+  -- there are as many ends as channels
+  pub sends : (g : Giver) → length (txs_of h g) ≡ place_at_giver cs (length cs) g
+  sends g =
+      ap length (j.givers g) ∙ length-map (given_by g cs rings) fresh_tx ∙ length_chosen (λ (c : Channel). same_giver g c.giver) cs rings j.one_each
+      ∙ ap (count_by (λ (c : Channel). same_giver g c.giver)) (sym (take-length cs))
+
+  pub receives : (t : Taker) → length (rxs_of h t) ≡ place_at_taker cs (length cs) t
+  receives t =
+      ap length (j.takers t) ∙ length-map (taken_by t cs rings) fresh_rx ∙ length_chosen (λ (c : Channel). same_taker t c.taker) cs rings j.one_each
+      ∙ ap (count_by (λ (c : Channel). same_taker t c.taker)) (sym (take-length cs))
+
   pub one_at_giver : (g : Giver) (d : ℕ) → d < length (txs_of h g) → (n : ℕ) × IsOneAtGiver cs g d n
   one_at_giver g d lt =
       let p = λ (c : Channel). same_giver g c.giver in
-      let many : length (txs_of h g) ≡ count_by p cs = ap length (j.givers g) ∙ length-map (given_by g cs rings) fresh_tx ∙ length_chosen p cs rings j.one_each in
+      let many : length (txs_of h g) ≡ count_by p cs = sends g ∙ ap (count_by p) (take-length cs) in
       let f = found p cs d (omega (arith, many, lt)) in (
         f.number,
         record {
@@ -54,7 +66,7 @@ module _ (cs : List Channel) (capacity : ℕ) (rings : List Ring) (h : Harness) 
   pub one_at_taker : (t : Taker) (q : ℕ) → q < length (rxs_of h t) → (n : ℕ) × IsOneAtTaker cs t q n
   one_at_taker t q lt =
       let p = λ (c : Channel). same_taker t c.taker in
-      let many : length (rxs_of h t) ≡ count_by p cs = ap length (j.takers t) ∙ length-map (taken_by t cs rings) fresh_rx ∙ length_chosen p cs rings j.one_each in
+      let many : length (rxs_of h t) ≡ count_by p cs = receives t ∙ ap (count_by p) (take-length cs) in
       let f = found p cs q (omega (arith, many, lt)) in (
         f.number,
         record {

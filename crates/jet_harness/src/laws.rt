@@ -5,7 +5,7 @@ ghost use Rattle.jet_layout.specs.declared.wire.Taker.{Taker};
 ghost use Rattle.jet_harness.specs.declared.channel.Channel.{Channel};
 ghost use Rattle.jet_harness.specs.declared.channel.Giver.{Giver};
 ghost use Rattle.jet_harness.specs.Harness.{txs_of, rxs_of, Joins};
-ghost use Rattle.jet_harness.specs.Places.{IsPlaced, IsOneAtGiver, IsOneAtTaker};
+ghost use Rattle.jet_harness.specs.Places.{IsPlaced, IsOneAtGiver, IsOneAtTaker, place_at_giver, place_at_taker};
 
 use crate::Harness;
 
@@ -19,12 +19,17 @@ pub fn every_ring_joins_its_two(harness: &Harness)
     let _harness = harness;
 }
 
-/// A law: each end that is there for a giver, or for a taker, is of the ring of exactly one channel.
+/// A law: each end that is there for a giver, or for a taker, is of the ring of exactly one channel; and so there are as many as
+/// channels.
 pub fn every_end_is_of_one_ring(harness: &Harness)
     ensures givers { (channels : List Channel) → (capacity : ℕ) → (rings : List Ring) → Joins channels capacity rings harness.now
         → (g : Giver) → (d : ℕ) → d < length (txs_of harness.now g) → (n : ℕ) × IsOneAtGiver channels g d n }
     ensures takers { (channels : List Channel) → (capacity : ℕ) → (rings : List Ring) → Joins channels capacity rings harness.now
         → (t : Taker) → (q : ℕ) → q < length (rxs_of harness.now t) → (n : ℕ) × IsOneAtTaker channels t q n }
+    ensures sends { (channels : List Channel) → (capacity : ℕ) → (rings : List Ring) → Joins channels capacity rings harness.now
+        → (g : Giver) → length (txs_of harness.now g) ≡ place_at_giver channels (length channels) g }
+    ensures receives { (channels : List Channel) → (capacity : ℕ) → (rings : List Ring) → Joins channels capacity rings harness.now
+        → (t : Taker) → length (rxs_of harness.now t) ≡ place_at_taker channels (length channels) t }
 {
     let _harness = harness;
 }
