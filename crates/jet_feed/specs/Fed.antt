@@ -94,6 +94,11 @@ pub record IsFed (c : Checks) (p : ℕ × DataFile) (at : ℕ) (content : Option
   pub body : IsSoFar c p given sent feed.body
   pub end : feed.ended ≡ true → (feed.lines.ended ≡ true) × (feed.lines.rest ≡ []) × (feed.unread ≡ None)
 
+-- the file was read to its end, and all its items and Done were given
+pub record IsOver (feed : Feed) : Type 0 where
+  pub ended : feed.ended ≡ true
+  pub given : feed.waiting ≡ None
+
 -- ---- steps
 
 -- the feed goes on, with nothing read and nothing sent

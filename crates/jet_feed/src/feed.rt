@@ -1,5 +1,5 @@
 // The feed of one data file: what it has read of it, and the item that waits for a slot.
-ghost use Rattle.std.specs.Prelude.{◌≡◌, ◌≤◌, ◌<◌, ◌≤ℤ◌, ℕ, pos, List, [], true, false, Ok, Option, None, Some, ◌+◌, IsSome, IsTrue, IsFalse, IfOk, IfErr, OnOk, length};
+ghost use Rattle.std.specs.Prelude.{◌≡◌, ◌↔◌, ◌≤◌, ◌<◌, ◌≤ℤ◌, ℕ, pos, List, [], true, false, Ok, Option, None, Some, ◌+◌, IsSome, IsTrue, IsFalse, IfOk, IfErr, OnOk, length};
 ghost use Rattle.jet_items.specs.Ranges.{most_time};
 ghost use Rattle.jet_items.specs.declared.item.Item.{Item};
 ghost use Rattle.jet_lines.specs.Files.{most_lines};
@@ -9,7 +9,7 @@ ghost use Rattle.jet_ring.specs.Ring.{known_free, reach, sent, tx_ring};
 ghost use Rattle.jet_worker.specs.CheckText.{Checks};
 ghost use Rattle.jet_worker.specs.Stopping.{IsForOutside, IsNoBadLine, Outcome};
 ghost use Rattle.jet_feed.specs.Bodies.{may_go_on};
-ghost use Rattle.jet_feed.specs.Fed.{Feeds, Gives, IsBadIn, IsFed, IsLeft, IsOfFile, IsOpen, IsStill, Keeps, ReadsOn, Tells, HasMoved, steps_left};
+ghost use Rattle.jet_feed.specs.Fed.{Feeds, Gives, IsBadIn, IsFed, IsLeft, IsOfFile, IsOpen, IsOver, IsStill, Keeps, ReadsOn, Tells, HasMoved, steps_left};
 ghost use mathlib.Core.List.{IsPrefix};
 
 use crate::Leave;
@@ -76,6 +76,13 @@ impl Feed {
             waiting: None,
             ended: false,
         }
+    }
+
+    /// Whether the file was read to its end, and all its items and Done were given.
+    pub fn is_over(&self) -> bool
+        ensures { IsTrue result ↔ IsOver self.now }
+    {
+        self.ended && self.waiting.is_none()
     }
 
     /// Cuts the next line, which is to be read then, or finds the end of the file. The answer is whether bytes are wanted.

@@ -14,3 +14,6 @@ mod rows;
 pub use feed::Feed;
 pub use laws::{a_feed_stays, what_a_ring_was_sent};
 pub use leave::Leave;
+
+#[cfg(test)]
+mod tests;
