@@ -1,0 +1,4 @@
+pub mod Feeds
+pub mod Going
+pub mod Progress
+pub mod Runs
