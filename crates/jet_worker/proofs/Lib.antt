@@ -10,6 +10,7 @@ pub mod LeftLaws
 pub mod LoopLemmas
 pub mod OpenLemmas
 pub mod OrderLemmas
+pub mod PlanFiles
 pub mod PlanLemmas
 pub mod SideLemmas
 pub mod SourceLemmas

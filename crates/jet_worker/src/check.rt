@@ -61,6 +61,7 @@ pub fn limits_of(plan: &Plan) -> Limits
     ensures most { plan.now.settings.lines ≡ pos result.most }
     ensures most_bound { result.most ≤ most_lines }
     ensures unit { (unit : ℕ) → IsGrain plan.now.dag unit → result.unit ≡ pos unit }
+    ensures checks { (c : Checks) → IsCheckOf plan.now.dag plan.now.settings c → (c.most ≡ result.most) × (result.unit ≡ pos c.unit) }
     ensures unit_bound { (pos 1 ≤ℤ result.unit) × (result.unit ≤ℤ pos 1000000000000) }
 {
     let unit = grain(plan.dag());

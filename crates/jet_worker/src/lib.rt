@@ -20,7 +20,7 @@ pub use check::{Limits, check_files, limits_of};
 pub use feed::{open_data, read_bytes, read_piece, write_text, write_texts};
 pub use files::{DataFile, data_files};
 pub use laws::a_valid_job_allows_lines;
-pub use open::{OpenFile, open_all};
+pub use open::{OpenFile, open_all, open_files};
 pub use stop::{Call, Spot, Stop};
 
 #[cfg(test)]

@@ -44,3 +44,7 @@ returns-clause-unit c = λ unit h. unit_same c ∙ ap pos (unit_is c.args.plan.n
 
 pub returns-clause-unit_bound : goal.returns-clause-unit_bound
 returns-clause-unit_bound c = let bounds = bounds_of c in let same = unit_same c in (omega (arith, ints, bounds.0, same), omega (arith, ints, bounds.1, same))
+
+pub returns-clause-checks : goal.returns-clause-checks
+returns-clause-checks c = λ check is.
+    (ap unsigned_abs (sym is.most ∙ (most_is c).0), unit_same c ∙ ap pos (unit_is c.args.plan.now.dag c.grain-unit.result check.unit (unit_of c) is.unit))
