@@ -20,7 +20,7 @@ use Rattle.jet_worker.specs.declared.stop.Call.TheVariants as call
 use Rattle.jet_worker.specs.declared.stop.Spot.{Spot}
 use Rattle.jet_worker.specs.declared.stop.Stop.{Stop}
 use Rattle.jet_feed.specs.Bodies.{KeepsBody, Notes, ReadsItem}
-use Rattle.jet_feed.specs.Fed.{AreGood, Gives, IsFed, IsLeft, IsOpen, IsSoFar, Keeps, Named, ReadsOn, done_where, line_items, unread, unread_in}
+use Rattle.jet_feed.specs.Fed.{AreGood, Gives, IsFed, IsLeft, IsOpen, IsSoFar, Keeps, Named, ReadsOn, done_where, ends_idle, is_idle, line_items, unread, unread_in}
 use Rattle.jet_feed.specs.declared.body.Body.{Body}
 use Rattle.jet_feed.specs.declared.body.Body.TheVariants.{Source, Side}
 use Rattle.jet_feed.specs.declared.feed.Feed.{Feed}
@@ -61,6 +61,7 @@ cut_line old n lines going none next = λ c p at content told sent h.
       left = subst (λ (b : Bool). IsLeft at content h.bytes b told) (sym ended) h.left;
       items = h.items;
       body = h.body;
+      idle = h.idle;
       end = λ e. false_true old.ended going e;
     }
 
@@ -86,6 +87,7 @@ cut_end old lines going none empty next = λ c p at content told sent h.
       left = subst (λ (v : LinesValue). IsLeft at content h.bytes v.ended told) (sym is) h.left;
       items = ap (λ (l : List Item). l ++ item.Done ∷ []) items;
       body = h.body;
+      idle = h.idle;
       end = λ e. (ap (λ (v : LinesValue). v.ended) is ∙ next.0, ap (λ (v : LinesValue). v.rest) is ∙ next.1, none);
     }
 
@@ -124,6 +126,7 @@ read_item old n found body is empty going reads = λ c p at content told sent h.
       left = h.left;
       items = ap (λ (l : List Item). l ++ option_to_list found) items ∙ sym more.items ∙ sym (append-nil (line_items c p (h.given ++ line ∷ []))) ∙ ap (λ (b : Bool). line_items c p (h.given ++ line ∷ []) ++ done_where b) (sym going);
       body = more.body;
+      idle = h.idle;
       end = λ e. false_true old.ended going e;
     }
 
@@ -143,6 +146,7 @@ other_body old body same = λ c p at content told sent h. record {
   left = h.left;
   items = h.items;
   body = same_body c p h.given sent old.body body h.body same;
+  idle = h.idle;
   end = h.end;
 }
 
@@ -165,8 +169,13 @@ noted c (p, SideFile name) given sent i (Source m) new h n = absurd h
 noted c (p, SideFile name) given sent i (Side old) (Source m) h n = absurd n
 noted c (p, SideFile name) given sent i (Side old) (Side new) h n = subst (λ (v : Rows). IsSoFar c (p, SideFile name) given sent (Side v)) (sym n) h
 
+ends_with : (before : List Item) (i : Item) → ends_idle (before ++ i ∷ []) ≡ is_idle i
+ends_with [] i = refl
+ends_with (x ∷ []) i = refl
+ends_with (x ∷ y ∷ before) i = ends_with (y ∷ before) i
+
 pub given_item : (old : Feed) (i : Item) (body : Body) (before now : List Item) → old.waiting ≡ Some i → Notes i old.body body → now ≡ before ++ i ∷ []
-    → Gives old (record old { body = body; waiting = None }) before now
+    → Gives old (record old { body = body; waiting = None; is_idle = is_idle i }) before now
 given_item old i body before now is notes more = λ c p at content told h. record {
   part = h.part;
   file = h.file;
@@ -181,6 +190,7 @@ given_item old i body before now is notes more = λ c p at content told h. recor
   left = h.left;
   items = append-nil now ∙ more ∙ ap (λ (o : Option Item). before ++ option_to_list o) (sym is) ∙ h.items;
   body = subst (λ (l : List Item). IsSoFar c p h.given l body) (sym more) (noted c p h.given before i old.body body h.body notes);
+  idle = sym (ap ends_idle more ∙ ends_with before i);
   end = h.end;
 }
 
@@ -209,6 +219,7 @@ put old lines piece before now going none live most number rest told = λ c p co
       left = left_more h.bytes content before now told h.left;
       items = h.items;
       body = h.body;
+      idle = h.idle;
       end = λ e. false_true old.ended going e;
     }
   where
@@ -245,6 +256,7 @@ read_failed old lines spot stop before now is told = λ c p content sent h. reco
   left = subst (λ (b : Bool). IsLeft old.file content h.bytes b now) (sym (ap (λ (v : LinesValue). v.ended) is)) (left_same h.bytes content before now told h.left);
   items = h.items;
   body = h.body;
+  idle = h.idle;
   end = λ e.
       let k = h.end e in
       (ap (λ (v : LinesValue). v.ended) is ∙ k.0, ap (λ (v : LinesValue). v.rest) is ∙ k.1, k.2);
@@ -271,7 +283,7 @@ no_items c (p, SideFile name) = refl
 -- nothing was taken of the file
 pub starts : (c : Checks) (p : ℕ × DataFile) (at : ℕ) (content : Option (List ℕ)) (told : Option Told) (lines : LinesValue) (body : Body)
     → lines ≡ record { most = c.most; number = 0; ended = false; line = []; rest = []; held = 0 } → IsSoFar c p [] [] body → IsLeft at content [] false told
-    → IsFed c p at content told [] (record { part = p.0; file = at; lines = lines; body = body; unread = None; waiting = None; ended = false })
+    → IsFed c p at content told [] (record { part = p.0; file = at; lines = lines; body = body; unread = None; waiting = None; is_idle = false; ended = false })
 starts c p at content told lines body is so_far left = record {
   part = refl;
   file = refl;
@@ -286,6 +298,7 @@ starts c p at content told lines body is so_far left = record {
   left = subst (λ (b : Bool). IsLeft at content [] b told) (sym (ap (λ (v : LinesValue). v.ended) is)) left;
   items = sym (ap (λ (l : List Item). l ++ []) (no_items c p));
   body = so_far;
+  idle = refl;
   end = λ e. absurd (false_true false refl e);
 }
 
@@ -306,6 +319,7 @@ told_same c p at content told next sent feed same h = record {
   left = left content h.left;
   items = h.items;
   body = h.body;
+  idle = h.idle;
   end = h.end;
 }
   where

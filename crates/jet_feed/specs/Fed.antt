@@ -1,5 +1,5 @@
 -- What a feed has read of its file, and what it has given to the ring.
-use Rattle.std.specs.Prelude.{◌≡◌, ◌≢◌, ◌⊎◌, ⊤, ℕ, ◌+◌, ◌*◌, ◌-◌, ◌≤◌, ◌<◌, Bool, true, false, cond, pos, List, [], ◌∷◌, ◌++◌, length, map, Option, Some, None, IsSome, Result, Ok, Err, option_to_list, is_ok}
+use Rattle.std.specs.Prelude.{◌≡◌, ◌≢◌, ◌⊎◌, ⊤, ℕ, ◌+◌, ◌*◌, ◌-◌, ◌≤◌, ◌<◌, Bool, true, false, ◌||◌, cond, pos, List, [], ◌∷◌, ◌++◌, length, map, Option, Some, None, IsSome, Result, Ok, Err, option_to_list, is_ok}
 use Rattle.std.specs.List.{list_all}
 use Rattle.jet_items.specs.Kinds.{events_of}
 use Rattle.jet_items.specs.declared.item.Item.{Item}
@@ -76,6 +76,23 @@ IsLeft at None bytes ended told = ⊤
 IsLeft at (Some content) bytes ended None = ⊥
 IsLeft at (Some content) bytes ended (Some told) = (content ≡ bytes ++ rest_of told at) × (ended ≡ true → rest_of told at ≡ [])
 
+-- the item says that its source is quiet
+abbrev pub is_idle : Item → Bool
+is_idle (item.Event e) = false
+is_idle (item.Side s) = false
+is_idle (item.Frame f) = false
+is_idle (item.Row r) = false
+is_idle (item.Late l) = false
+is_idle (item.Mark m) = false
+is_idle item.Idle = true
+is_idle item.Done = false
+
+-- the last of these items is an idle note
+abbrev pub ends_idle : List Item → Bool
+ends_idle [] = false
+ends_idle (i ∷ []) = is_idle i
+ends_idle (i ∷ j ∷ items) = ends_idle (j ∷ items)
+
 -- The file with its number and this content is open under a number. A front of it was taken, and cut into lines. The items of
 -- these but an unread one were sent, and then the waiting one is to be; Done comes behind all where the file has ended.
 pub record IsFed (c : Checks) (p : ℕ × DataFile) (at : ℕ) (content : Option (List ℕ)) (told : Option Told) (sent : List Item) (feed : Feed) : Type 0 where
@@ -92,6 +109,7 @@ pub record IsFed (c : Checks) (p : ℕ × DataFile) (at : ℕ) (content : Option
   pub left : IsLeft at content bytes feed.lines.ended told
   pub items : sent ++ waiting feed ≡ line_items c p given ++ done_where feed.ended
   pub body : IsSoFar c p given sent feed.body
+  pub idle : feed.is_idle ≡ ends_idle sent
   pub end : feed.ended ≡ true → (feed.lines.ended ≡ true) × (feed.lines.rest ≡ []) × (feed.unread ≡ None)
 
 -- the file was read to its end, and all its items and Done were given
@@ -173,6 +191,10 @@ Tells feed result = WhereTold (HasRead (IsLast (Part feed.part) feed.file result
 abbrev pub HasMoved : List Item → List Item → Option Told → Option Told → Type 0
 HasMoved before now old new = (length before < length now) ⊎ WhereTold (λ a b. length a.trace < length b.trace) old new
 
+-- the file may be read on: its source is quiet, or its mark is not too far ahead
+abbrev pub may_read : Leave → Feed → Bool
+may_read leave feed = feed.is_idle || may_go_on leave feed.body
+
 -- an item waits and the ring is full; or Done was given; or the file may not be read on
 abbrev pub IsStill : Leave → ℕ → Feed → Type 0
-IsStill leave free feed = (IsSome feed.waiting × (free ≡ 0)) ⊎ ((feed.waiting ≡ None) × (feed.ended ≡ true)) ⊎ (IsOpen feed × (may_go_on leave feed.body ≡ false))
+IsStill leave free feed = (IsSome feed.waiting × (free ≡ 0)) ⊎ ((feed.waiting ≡ None) × (feed.ended ≡ true)) ⊎ (IsOpen feed × (may_read leave feed ≡ false))

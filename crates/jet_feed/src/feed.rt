@@ -8,8 +8,7 @@ ghost use Rattle.jet_flow.specs.DataFiles.{DataFile, SourceFile, SideFile};
 ghost use Rattle.jet_ring.specs.Ring.{known_free, reach, sent, tx_ring};
 ghost use Rattle.jet_worker.specs.CheckText.{Checks};
 ghost use Rattle.jet_worker.specs.Stopping.{IsForOutside, IsNoBadLine, Outcome};
-ghost use Rattle.jet_feed.specs.Bodies.{may_go_on};
-ghost use Rattle.jet_feed.specs.Fed.{Feeds, Gives, IsBadIn, IsFed, IsLeft, IsOfFile, IsOpen, IsOver, IsStill, Keeps, ReadsOn, Tells, HasMoved, steps_left};
+ghost use Rattle.jet_feed.specs.Fed.{Feeds, Gives, IsBadIn, IsFed, IsLeft, IsOfFile, IsOpen, IsOver, IsStill, Keeps, ReadsOn, Tells, HasMoved, is_idle, may_read, steps_left};
 ghost use mathlib.Core.List.{IsPrefix};
 
 use crate::Leave;
@@ -34,6 +33,8 @@ pub struct Feed {
     unread: Option<u32>,
     // The item that is given next.
     waiting: Option<Item>,
+    // The item that was given last is an idle note.
+    is_idle: bool,
     // Done waits or was given.
     ended: bool,
 }
@@ -56,6 +57,7 @@ impl Feed {
             body: Body::Source(Marker::new(lag, unit)),
             unread: None,
             waiting: None,
+            is_idle: false,
             ended: false,
         }
     }
@@ -74,6 +76,7 @@ impl Feed {
             body: Body::Side(Rows::new(alloc)),
             unread: None,
             waiting: None,
+            is_idle: false,
             ended: false,
         }
     }
@@ -195,8 +198,17 @@ impl Feed {
             return false;
         }
         self.body.note(&item);
+        self.is_idle = is_idle(&item);
         self.waiting = None;
         true
+    }
+
+    // Whether the file may be read on: its source is quiet, or its mark is not too far ahead.
+    fn may_read(&self, leave: &Leave) -> bool
+        requires { (pos 0 ≤ℤ leave.now.ahead) × (leave.now.ahead ≤ℤ pos most_time) }
+        ensures { result ≡ may_read leave.now self.now }
+    {
+        self.is_idle || self.body.may_go_on(leave)
     }
 
     /// Reads the next piece of the file where it may be read on, and answers whether it was.
@@ -209,10 +221,10 @@ impl Feed {
         ensures no_bad_line { IfErr result IsNoBadLine }
         ensures told { Tells self.old result (O.told out.old) (O.told out.new) }
         ensures moved { result ≡ Ok true → WhereTold (λ a b. length a.trace < length b.trace) (O.told out.old) (O.told out.new) }
-        ensures held { IfOk result (λ read. read ≡ false → (self.new ≡ self.old) × (out.new ≡ out.old) × (may_go_on leave.now self.old.body ≡ false)) }
+        ensures held { IfOk result (λ read. read ≡ false → (self.new ≡ self.old) × (out.new ≡ out.old) × (may_read leave.now self.old ≡ false)) }
         ensures file { IsOfFile self.old self.new }
     {
-        if !self.body.may_go_on(leave) {
+        if !self.may_read(leave) {
             return Ok(false);
         }
         match read_piece(out, Spot::Part(self.part), self.file, &mut self.lines) {
@@ -250,7 +262,7 @@ impl Feed {
     }
 
     /// Gives the waiting item and the items of the lines that follow while the ring has a free slot, and reads the file on
-    /// where no whole line is left and its mark may go on. At the end of the file Done is given, once and last. The answer is
+    /// where no whole line is left and its source is quiet or its mark may go on. At the end of the file Done is given, once and last. The answer is
     /// whether anything moved: an item was given, a byte was read, or the end was found.
     pub fn feed<O: Outside>(
         &mut self,
@@ -281,6 +293,15 @@ impl Feed {
             }
         }
         Ok(true)
+    }
+}
+
+fn is_idle(item: &Item) -> bool
+    ensures { result ≡ is_idle item.now }
+{
+    match item {
+        Item::Idle => true,
+        _ => false,
     }
 }
 

@@ -190,7 +190,7 @@ fn a_ring_is_sent_the_items(rt: HostRuntime) -> Result<(), Fail> {
     Ok(())
 }
 
-// A source is read on until it has a mark, and then only as far as the sink allows.
+// A source is read on until it has a mark, and then only as far as the sink allows, or while it is quiet.
 #[test]
 fn a_source_waits_for_the_sink(rt: HostRuntime) -> Result<(), Fail> {
     let held = |sink, signs| Case {
@@ -202,5 +202,12 @@ fn a_source_waits_for_the_sink(rt: HostRuntime) -> Result<(), Fail> {
     assert!(rt; holds(rt.alloc(), &held(None, &[7]), 2, 6)?);
     assert!(rt; holds(rt.alloc(), &held(Some(Mark { t: 6 }), &[7]), 2, 6)?);
     assert!(rt; holds(rt.alloc(), &held(Some(Mark { t: 7 }), &[7, IDLE, 20]), 2, 6)?);
+    let quiet = Case {
+        content: b"20,k,1\n#idle\n",
+        sink: Some(Mark { t: 6 }),
+        signs: &[20, IDLE, DONE],
+        ..BASE
+    };
+    assert!(rt; holds(rt.alloc(), &quiet, 2, 13)?);
     Ok(())
 }
