@@ -1,7 +1,6 @@
 -- A run comes farther: its ends meet, its files are fed, its sink is drained.
-use Rattle.std.proofs.Common.{arith, ◌≡◌, ◌≢◌, ◌∙◌, ◌+◌, ◌<◌, ◌≤◌, ◌++◌, ◌⊎◌, inl, inr, ℕ, zero, suc, Bool, true, false, List, [], ◌∷◌, Option, None, Some, map, length, ap, refl, sym, subst, append_assoc}
-use Rattle.std.specs.Prelude.{slice_get, get_or, Result, Ok, Err, IsSome, All}
-use Rattle.std.specs.List.{Contains, flat_map}
+use Rattle.std.proofs.Common.{arith, ◌≡◌, ◌≢◌, ◌∙◌, ◌<◌, ◌++◌, ℕ, zero, suc, Bool, List, [], ◌∷◌, Option, Some, map, length, ap, refl, sym, subst, append_assoc}
+use Rattle.std.specs.Prelude.{slice_get, get_or, Ok, All}
 use Rattle.std.proofs.lemmas.Grind.{flat_map-append}
 use Rattle.std.proofs.lemmas.List.{map-append, append-nil}
 use Rattle.std.proofs.lemmas.List.Elements.{All-nil, All-cons, All-append}
@@ -15,14 +14,13 @@ use Rattle.jet_file.specs.Outside.{CallMade, Place, Told, Opened as Opens, Read,
 use Rattle.jet_file.specs.Text.{rows_text, late_text, window_line, late_window_line}
 use Rattle.jet_file.specs.declared.outside.Out.{Out}
 use Rattle.jet_file.specs.declared.outside.Out.TheVariants as out
-use Rattle.jet_flow.specs.DataFiles.{file_name}
 use Rattle.jet_items.specs.declared.item.Item.{Item}
 use Rattle.jet_items.specs.Kinds.{lates_of, as_late}
 use Rattle.jet_items.specs.Rows.{Window}
 use Rattle.jet_items.specs.Values.{RowValue}
 use Rattle.jet_ring.specs.Ring.{TxView}
-use Rattle.jet_sink.specs.Drained.{Drained, HasDrained}
-use Rattle.jet_sink.specs.Taken.{TakenItem, items_from, item_from, items_in, HasTaken}
+use Rattle.jet_sink.specs.Drained.{Drained}
+use Rattle.jet_sink.specs.Taken.{TakenItem, items_from, item_from, items_in}
 use Rattle.jet_sink.specs.View.{View}
 use Rattle.jet_worker.specs.Calls.{ReadsOrWrites, opening_call}
 use Rattle.jet_worker.specs.CheckText.{Checks}

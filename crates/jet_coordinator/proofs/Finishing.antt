@@ -1,5 +1,5 @@
 -- A run in which all is done.
-use Rattle.std.proofs.Common.{arith, ◌≡◌, ◌≢◌, ◌∙◌, ◌+◌, ◌<◌, ◌++◌, ◌⊎◌, inl, inr, ℕ, zero, suc, Bool, true, false, List, [], ◌∷◌, Option, None, Some, map, length, ap, refl, sym, subst}
+use Rattle.std.proofs.Common.{arith, ◌≡◌, ◌≢◌, ◌∙◌, ◌++◌, ℕ, zero, suc, Bool, true, false, List, [], ◌∷◌, Option, None, Some, map, length, ap, refl, sym, subst}
 use Rattle.std.specs.Prelude.{◌==◌, slice_get, get_or, option_map, IsSome, IsSomeAnd, All, if◌then◌else◌}
 use Rattle.std.specs.List.Sorted.{IsPermutation}
 use Rattle.std.proofs.lemmas.Bool.Decides.{nat_tests}
@@ -23,14 +23,15 @@ use Rattle.jet_items.specs.Rows.{Window}
 use Rattle.jet_items.specs.Values.{RowValue}
 use Rattle.jet_ring.specs.Ring.{TxView, tx_view}
 use Rattle.jet_sink.specs.Alike.{AreAlike}
-use Rattle.jet_sink.specs.Drained.{AllDone, HasDrained}
+use Rattle.jet_sink.specs.Drained.{AllDone}
 use Rattle.jet_sink.specs.Taken.{TakenItem, item_from, items_from, items_in}
 use Rattle.jet_sink.specs.View.{View}
 use Rattle.jet_worker.specs.Calls.{Calling, opened_by, opening_call}
 use Rattle.jet_worker.specs.CheckText.{Checks, first_bad}
 use Rattle.jet_worker.specs.Checked.{IsGood, numbered}
 use Rattle.jet_worker.specs.Opening.{AreNew, Opened, opening_of, pair_of}
-use Rattle.jet_coordinator.specs.Runs.{HasCarried, HasRun, IsReadOut}
+use Rattle.jet_coordinator.specs.Carried.{HasCarried}
+use Rattle.jet_coordinator.specs.Runs.{HasRun, IsReadOut}
 use Rattle.jet_coordinator.specs.Progress.{AreOpen, HasCome}
 use Rattle.jet_coordinator.proofs.Stops.{file_at, number_at, in_order, there_is, length_numbered}
 

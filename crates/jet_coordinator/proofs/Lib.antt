@@ -1,4 +1,6 @@
+pub mod BeginLemmas
 pub mod Coming
+pub mod EndLemmas
 pub mod Finishing
 pub mod ReadLemmas
 pub mod RingLemmas

@@ -1,5 +1,5 @@
 -- The reads of several files, one step after another.
-use Rattle.std.proofs.Common.{◌≡◌, ◌≢◌, ℕ, ◌<◌, ◌≤◌, Bool, true, false, ◌||◌, List, [], ◌∷◌, ◌++◌, ◌∙◌, map, length, Option, Some, None, Result, Ok, Err, refl, sym, ap, subst, get_or, set, arith, length-set, ◌⊎◌, append-nil, append_assoc, inl, inr}
+use Rattle.std.proofs.Common.{◌≡◌, ◌≢◌, ℕ, ◌<◌, ◌≤◌, Bool, true, false, ◌||◌, List, [], ◌++◌, ◌∙◌, map, length, Option, Some, None, Result, Ok, Err, refl, sym, ap, subst, get_or, set, arith, length-set, ◌⊎◌, append-nil, append_assoc, inl, inr}
 use Rattle.std.specs.Prelude.{All, AllPairs, Contains, IfErr, IsTrue, IsSome, MatchResult, OnOk, option_map}
 use Rattle.std.specs.List.{slice_get}
 use Rattle.std.proofs.lemmas.Bool.{cases_eq, cases_lt}
@@ -14,7 +14,7 @@ use Rattle.jet_ring.specs.Ring.{TxView, sent, tx_ring, tx_view}
 use Rattle.jet_ring.specs.declared.ends.Tx.{Tx}
 use Rattle.jet_worker.specs.CheckText.{Checks}
 use Rattle.jet_worker.specs.Opening.{Opened as OpenedFile, pair_of}
-use Rattle.jet_worker.specs.Stopping.{CauseOfStop, IsCallIn, LastIs, Outcome}
+use Rattle.jet_worker.specs.Stopping.{CauseOfStop, IsCallIn, Outcome}
 use Rattle.jet_worker.specs.declared.stop.Call.{Call}
 use Rattle.jet_worker.specs.declared.stop.Spot.{Spot}
 use Rattle.jet_worker.specs.declared.stop.Spot.TheVariants.{Part}
@@ -70,6 +70,7 @@ stays c p at content told next items feed same h = record {
   left = left_stays at content h.bytes feed.lines.ended told next same h.left;
   items = h.items;
   body = h.body;
+  idle = h.idle;
   end = h.end;
 }
 

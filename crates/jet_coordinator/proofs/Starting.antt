@@ -1,8 +1,8 @@
 -- The feeds of opened files of which nothing is read, one after another.
-use Rattle.std.proofs.Common.{arith, ◌≡◌, ◌≢◌, ◌∙◌, ◌+◌, ◌<◌, ◌++◌, ◌⊎◌, inl, inr, ℕ, zero, suc, pos, ℤ, List, [], ◌∷◌, Option, None, Some, map, length, ap, refl, sym, subst}
-use Rattle.std.specs.Prelude.{slice_get, get_or, option_map, All}
+use Rattle.std.proofs.Common.{arith, ◌≡◌, ◌∙◌, ◌+◌, ◌++◌, ◌⊎◌, inl, inr, ℕ, zero, suc, pos, List, [], ◌∷◌, Option, None, Some, map, length, ap, refl, sym, subst}
+use Rattle.std.specs.Prelude.{slice_get, All}
 use Rattle.std.proofs.lemmas.List.{length-map, length_push}
-use Rattle.std.proofs.lemmas.Option.{slice_get_within, slice_get-get_or, slice_get-map, get_or_from_slice_get, same_Some}
+use Rattle.std.proofs.lemmas.Option.{slice_get_within, get_or_from_slice_get, same_Some}
 use Rattle.jet_feed.specs.Fed.{IsFed}
 use Rattle.jet_feed.specs.declared.feed.Feed.{Feed}
 use Rattle.jet_file.specs.Outside.{Told}

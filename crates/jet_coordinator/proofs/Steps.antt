@@ -1,10 +1,8 @@
 -- The steps of a running job, and what is told of them.
-use Rattle.std.proofs.Common.{arith, ◌≡◌, ◌∙◌, ◌<◌, ◌++◌, ◌⊎◌, inl, inr, ℕ, Bool, true, false, List, [], ◌∷◌, Option, None, Some, map, length, ap, refl, sym, subst, append_assoc}
-use Rattle.std.specs.Prelude.{slice_get, get_or, Result, Ok, Err, OnOk, IfErr, All}
-use Rattle.std.specs.List.{Contains}
+use Rattle.std.proofs.Common.{arith, ◌≡◌, ◌∙◌, ◌++◌, ◌⊎◌, inl, inr, ℕ, Bool, true, List, [], Option, None, Some, map, ap, refl, sym, subst, append_assoc}
+use Rattle.std.specs.Prelude.{Result, Ok, Err, OnOk, IfErr}
 use Rattle.std.specs.declared.vec.Vec.{Vec}
 use Rattle.std.specs.declared.alloc.Global.{Global}
-use Rattle.std.proofs.lemmas.Grind.{flat_map-append}
 use Rattle.std.proofs.lemmas.List.{append-nil}
 use Rattle.std.proofs.lemmas.List.Elements.{All-append, All-nil}
 use Rattle.std.proofs.lemmas.Option.{slice_get_within, get_or_from_slice_get}
@@ -15,7 +13,7 @@ use Rattle.jet_engine.specs.declared.job.Job.{Job}
 use Rattle.jet_engine.specs.Wiring.{TxMet, SinkMet}
 use Rattle.jet_feed.specs.declared.feed.Feed.{Feed}
 use Rattle.jet_file.proofs.GoesLaws.{goes_same, goes_then}
-use Rattle.jet_file.specs.Outside.{CallMade, Told, Tried, WhereTold, Wrote}
+use Rattle.jet_file.specs.Outside.{Told, Tried, WhereTold, Wrote}
 use Rattle.jet_file.specs.Text.{rows_text, late_text}
 use Rattle.jet_file.specs.declared.outside.Out.{Out}
 use Rattle.jet_file.specs.declared.outside.Out.TheVariants as out
@@ -26,21 +24,21 @@ use Rattle.jet_ring.specs.Ring.{TxView, tx_view}
 use Rattle.jet_ring.specs.declared.ends.Tx.{Tx}
 use Rattle.jet_sink.specs.Drained.{Drained}
 use Rattle.jet_sink.specs.Taken.{items_in}
-use Rattle.jet_sink.specs.View.{View, view}
+use Rattle.jet_sink.specs.View.{view}
 use Rattle.jet_sink.specs.declared.sink.Sink.{Sink}
 use Rattle.jet_worker.proofs.CallLaws.{last_weaker}
-use Rattle.jet_worker.specs.Calls.{Calling, ReadsOrWrites}
+use Rattle.jet_worker.specs.Calls.{ReadsOrWrites}
 use Rattle.jet_worker.specs.CheckText.{Checks}
-use Rattle.jet_worker.specs.Feeding.{Appends, Flushes, StopsAppending}
-use Rattle.jet_worker.specs.Opening.{Opened, pair_of}
-use Rattle.jet_worker.specs.Stopping.{IsCallIn, IsNoBadLine, IsWriting, LastIs}
+use Rattle.jet_worker.specs.Feeding.{Flushes, StopsAppending}
+use Rattle.jet_worker.specs.Opening.{Opened}
+use Rattle.jet_worker.specs.Stopping.{IsCallIn, IsNoBadLine, IsWriting}
 use Rattle.jet_worker.specs.declared.stop.Call.{Call}
 use Rattle.jet_worker.specs.declared.stop.Spot.{Spot}
 use Rattle.jet_worker.specs.declared.stop.Spot.TheVariants.{Part}
 use Rattle.jet_worker.specs.declared.stop.Stop.{Stop}
 use Rattle.jet_worker.specs.declared.stop.Stop.TheVariants.{BadLine, Outside, NoMemory}
 use Rattle.jet_coordinator.specs.Feeds.{AreFed, HaveRead, IsBadAmong, IsReadAmong}
-use Rattle.jet_coordinator.specs.Runs.{HasBegunPrinting, RunStops}
+use Rattle.jet_coordinator.specs.Runs.{HasBegunPrinting}
 use Rattle.jet_coordinator.specs.declared.run.Running.{Running}
 use Rattle.jet_coordinator.specs.Progress.{AreOpen, HasCome, HasComeTo, ComesOn, StopsFrom}
 use Rattle.jet_coordinator.proofs.Coming.{come_met, come_fed, come_drained, reads_are, writes_are, rows_more, lates_more}

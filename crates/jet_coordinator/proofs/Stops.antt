@@ -1,14 +1,14 @@
 -- How a run stops.
-use Rattle.std.proofs.Common.{arith, ◌≡◌, ◌∙◌, ◌+◌, ◌<◌, ◌++◌, ◌⊎◌, inl, inr, ℕ, zero, suc, List, [], ◌∷◌, Option, None, Some, map, length, ap, refl, sym, subst, append_assoc}
-use Rattle.std.specs.Prelude.{slice_get, get_or, Result, Ok, Err, IsSome, IsSomeAnd, option_map, All}
+use Rattle.std.proofs.Common.{arith, ◌≡◌, ◌∙◌, ◌+◌, ◌<◌, ◌++◌, ℕ, zero, suc, List, [], ◌∷◌, Option, None, Some, map, length, ap, refl, sym, subst, append_assoc}
+use Rattle.std.specs.Prelude.{slice_get, IsSome, IsSomeAnd, option_map, All}
 use Rattle.std.specs.List.{Contains, enumerate_from}
-use Rattle.std.proofs.lemmas.List.{append-nil, length-map}
+use Rattle.std.proofs.lemmas.List.{length-map}
 use Rattle.std.proofs.lemmas.List.Elements.{All-nil, All-cons, All-append}
 use Rattle.std.proofs.lemmas.Option.{slice_get_within, slice_get-get_or, slice_get-map, get_or_from_slice_get, same_Some}
 use Rattle.jet_conveyor.specs.Conveyor as conveyor
-use Rattle.jet_feed.specs.Fed.{IsBadOf, IsFirstBad}
+use Rattle.jet_feed.specs.Fed.{IsFirstBad}
 use Rattle.jet_feed.specs.declared.feed.Feed.{Feed}
-use Rattle.jet_file.specs.Outside.{CallMade, Told, Tried, Opened as Opens, Missed, Opening, Reading, Writing}
+use Rattle.jet_file.specs.Outside.{CallMade, Told, Tried, Missed, Opening, Reading, Writing}
 use Rattle.jet_file.specs.declared.outside.Out.TheVariants as out
 use Rattle.jet_flow.specs.DataFiles.{DataFile, file_name}
 use Rattle.jet_items.specs.declared.item.Item.{Item}
@@ -16,7 +16,7 @@ use Rattle.jet_items.specs.Rows.{Window}
 use Rattle.jet_lines.specs.declared.fault.LineFault.{LineFault}
 use Rattle.jet_ring.specs.Ring.{TxView}
 use Rattle.jet_sink.specs.View.{View}
-use Rattle.jet_worker.specs.Calls.{Calling, EndsFailed, IsCallOf, OpensInOrder, ReadsOrWrites, opened_by, opening_call, part_place}
+use Rattle.jet_worker.specs.Calls.{Calling, IsCallOf, OpensInOrder, ReadsOrWrites, opened_by, opening_call, part_place}
 use Rattle.jet_worker.specs.CheckText.{Checks, first_bad}
 use Rattle.jet_worker.specs.Checked.{AreThere, names_of, numbered}
 use Rattle.jet_worker.specs.Opening.{Opened, opening_of, pair_of}
@@ -27,8 +27,8 @@ use Rattle.jet_worker.specs.declared.stop.Spot.{Spot}
 use Rattle.jet_worker.specs.declared.stop.Spot.TheVariants.{Job, Part, Rows, Notes}
 use Rattle.jet_worker.specs.declared.stop.Stop.{Stop}
 use Rattle.jet_worker.specs.declared.stop.Stop.TheVariants.{BadLine, Outside, NoMemory}
-use Rattle.jet_coordinator.specs.Feeds.{IsBadAmong, content_in}
-use Rattle.jet_coordinator.specs.Runs.{HasBegunPrinting, IsFirstBadLine, RunStops, WhyStopped}
+use Rattle.jet_coordinator.specs.Feeds.{IsBadAmong}
+use Rattle.jet_coordinator.specs.Runs.{HasBegunPrinting, RunStops, WhyStopped}
 use Rattle.jet_coordinator.specs.Progress.{AreOpen, HasCome}
 
 -- ---- the openings

@@ -1,5 +1,5 @@
 -- All data files of a job, each read piece by piece and fed into its ring.
-use Rattle.std.specs.Prelude.{◌≡◌, ◌≢◌, ℕ, ◌≤◌, List, [], ◌∷◌, ◌++◌, length, slice_get, All, Option, Some, None, Result, Ok, Err, IsSome, ⊤}
+use Rattle.std.specs.Prelude.{◌≡◌, ◌≢◌, ℕ, ◌≤◌, List, [], ◌++◌, length, slice_get, All, Option, Some, None, Result, Ok, Err, IsSome, ⊤}
 use Rattle.std.specs.List.{Contains}
 use Rattle.jet_items.specs.declared.item.Item.{Item}
 use Rattle.jet_ring.specs.Ring.{TxView}

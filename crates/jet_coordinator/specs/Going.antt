@@ -1,5 +1,5 @@
 -- A job that runs: what is known of it between two epochs.
-use Rattle.std.specs.Prelude.{◌≡◌, ◌≢◌, ◌≤ℤ◌, pos, ℕ, Bool, List, length, All, IsTrue}
+use Rattle.std.specs.Prelude.{◌≡◌, ◌≢◌, ◌≤ℤ◌, pos, ℕ, Bool, length, All, IsTrue}
 use Rattle.std.specs.List.{AllPairs}
 use Rattle.jet_conveyor.specs.Conveyor as lanes
 use Rattle.jet_engine.specs.Jobs.{IsReady}

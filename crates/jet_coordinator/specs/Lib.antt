@@ -1,3 +1,5 @@
+pub mod Begun
+pub mod Carried
 pub mod Feeds
 pub mod Going
 pub mod Progress

@@ -1,5 +1,5 @@
 // The feeds of all data files of a job.
-ghost use Rattle.std.specs.Prelude.{◌≡◌, ◌≢◌, ◌≤ℤ◌, ◌≤◌, ◌<◌, ◌^◌, ℕ, pos, List, [], All, Option, Some, None, true, false, IsTrue, IfOk, IfErr, OnOk, length, map};
+ghost use Rattle.std.specs.Prelude.{◌≡◌, ◌≢◌, ◌↔◌, ◌≤ℤ◌, ◌≤◌, ◌<◌, ◌^◌, ℕ, pos, List, [], All, Option, Some, None, true, false, IsTrue, IfOk, IfErr, OnOk, length, map};
 ghost use Rattle.std.specs.List.{AllPairs};
 ghost use Rattle.jet_crew.specs.Epoch.{Placewise};
 ghost use Rattle.jet_file.specs.Outside.{WhereTold, Told};
@@ -119,7 +119,7 @@ pub fn feed_all<O: Outside>(
 
 /// Whether each file was read to its end, and its ring was sent all and Done.
 pub fn are_over(feeds: &[Feed]) -> bool
-    ensures { IsTrue result → All IsOver feeds.now }
+    ensures { IsTrue result ↔ All IsOver feeds.now }
 {
     feeds.iter().all(Feed::is_over)
 }

@@ -10,7 +10,8 @@ ghost use Rattle.jet_worker.specs.Calls.{Calling};
 ghost use Rattle.jet_worker.specs.CheckText.{Checks};
 ghost use Rattle.jet_worker.specs.Opening.{AreNew, Opened};
 ghost use Rattle.jet_coordinator.specs.Progress.{AreOpen, HasComeTo, IsAtEnd};
-ghost use Rattle.jet_coordinator.specs.Runs.{HasCarried, HasRun};
+ghost use Rattle.jet_coordinator.specs.Carried.{HasCarried};
+ghost use Rattle.jet_coordinator.specs.Runs.{HasRun};
 ghost use Rattle.jet_coordinator.specs.declared.run.Running.{Running};
 
 use jet_feed::what_a_ring_was_sent;

@@ -1,8 +1,6 @@
-use Rattle.std.proofs.Common.{◌≡◌, ap, sym, subst, get_or, map, arith, List}
-use Rattle.std.proofs.lemmas.Option.{slice_get-get_or, slice_get-map}
-use Rattle.jet_items.specs.declared.item.Item.{Item}
-use Rattle.jet_ring.specs.Ring.{TxView, sent, tx_view}
-use Rattle.jet_crew.specs.Epoch.{Placewise}
+use Rattle.std.proofs.Common.{get_or, arith}
+use Rattle.std.proofs.lemmas.Option.{slice_get-get_or}
+use Rattle.jet_ring.specs.Ring.{sent}
 use Rattle.jet_worker.specs.declared.stop.Spot.TheVariants.{Part}
 use Rattle.jet_feed.specs.Fed.{IsBadIn, IsLast}
 use Rattle.jet_coordinator.proofs.ReadLemmas.{bad_among, fed_on, if_err, on_ok, read_among, rings_on}
