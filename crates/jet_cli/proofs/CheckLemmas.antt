@@ -1,5 +1,5 @@
 -- What the command `check` comes to.
-use Rattle.std.proofs.Common.{◌≡◌, ℕ, List, [], ◌∷◌, ◌++◌, length, map, take, Bool, true, false, Option, Some, None, refl, ap, sym, ◌∙◌, subst, arith, append-nil, append_assoc, All, inl, inr}
+use Rattle.std.proofs.Common.{◌≡◌, ℕ, List, [], ◌∷◌, ◌++◌, length, map, take, Bool, true, false, Option, Some, None, Result, Ok, refl, ap, sym, ◌∙◌, subst, arith, append-nil, append_assoc, All, inl, inr}
 use Rattle.std.specs.Prelude.{◌≢◌, ◌⊎◌, Any, IsSome, IsSomeAnd, option_map, flat_map, ◌==◌}
 use Rattle.std.specs.List.{AllZip}
 use Rattle.std.specs.Option.{unwrap_or}
@@ -8,6 +8,10 @@ use Rattle.jet_lines.specs.declared.fault.LineFault.{LineFault}
 use Rattle.jet_file.specs.Outside.{Told, Place, CallMade, Opened, Read, WhereTold, AddsNumber, LacksFile}
 use Rattle.jet_file.specs.declared.outside.Out.{Out}
 use Rattle.jet_file.specs.declared.outside.Out.TheVariants as out
+use Rattle.jet_file.specs.Headline.{IsReadWhole}
+use Rattle.jet_job.specs.Jobs.{job_at}
+use Rattle.jet_job.specs.declared.fault.JobFault.{JobFault}
+use Rattle.jet_job.specs.declared.job_text.JobText.{JobText}
 use Rattle.jet_flow.specs.DataFiles.{DataFile, data_files, file_name}
 use Rattle.jet_plan.specs.Plans.{IsValid}
 use Rattle.jet_plan.specs.declared.plan.Plan.{Plan}
@@ -20,8 +24,8 @@ use Rattle.jet_plan.specs.Faults.{fault}
 use Rattle.jet_plan.specs.declared.dag.Dag.{Dag}
 use Rattle.jet_plan.specs.declared.settings.Settings.{Settings}
 use Rattle.jet_worker.proofs.CallLaws.{no_calls}
-use Rattle.jet_cli.specs.CallOrder.{ChecksJob, ReadsJob}
-use Rattle.jet_cli.specs.CheckedJob.{CheckHalts, IsCheckedJob, LacksFiles, WhyHalted}
+use Rattle.jet_cli.specs.CallOrder.{ChecksFiles, ChecksJob, JobFirst, ReadsJob, data_names}
+use Rattle.jet_cli.specs.CheckedJob.{CheckHalts, EarlyEnd, IsCheckedJob, JobHalts, LacksFiles, WhyHalted, check_end}
 use Rattle.jet_cli.specs.JobChecks.{HasChecks}
 use Rattle.jet_cli.specs.JobData.{files_in, files_of}
 use Rattle.jet_cli.specs.inner.Halting.{IsKnown, IsNoBadHalt}
@@ -52,16 +56,18 @@ job_checked c told calls first later calls_are job h order turns =
       calls_are = calls_are;
       job = job;
       files = record {
-        opens = subst (λ (names : List (List ℕ)). OpensInOrder names later) (sym files) order.opens;
-        opened = order.opened;
-        turns = order.turns;
-        waiting = order.waiting;
-        last = order.last;
-        calls_are = order.calls_are;
-        order = order.order;
-        end = order.end;
+        order = record {
+          opens = subst (λ (names : List (List ℕ)). OpensInOrder names later) (sym files) order.opens;
+          opened = order.opened;
+          turns = order.turns;
+          waiting = order.waiting;
+          last = order.last;
+          calls_are = order.calls_are;
+          order = order.order;
+          end = order.end;
+        };
+        turns = inr (h, turns);
       };
-      turns = inr (h, turns);
     }
 
 -- turns that are all whole
@@ -73,7 +79,7 @@ turns_all c told (q ∷ files) (u ∷ v ∷ turns) h = (h.0, turns_all c told fi
 
 -- ---- from the reading of the job file on
 module _ (k : Checks) (old mid : Told) (kept : mid.content ≡ old.content) (written : mid.written ≡ old.written) where
-  good_same : (ps : List (ℕ × DataFile)) → All (IsGood k mid) ps → All (IsGood k old) ps
+  pub good_same : (ps : List (ℕ × DataFile)) → All (IsGood k mid) ps → All (IsGood k old) ps
   good_same ps = subst (λ (ct : List ℕ → Option (List ℕ)). All (λ (p : ℕ × DataFile). IsSomeAnd (ct (file_name p.1)) (λ content. first_bad k p content ≡ None)) ps) kept
 
   lines_same : (ps : List (ℕ × DataFile)) → check_lines k mid ps ≡ check_lines k old ps
@@ -101,7 +107,7 @@ module _ (k : Checks) (old mid : Told) (kept : mid.content ≡ old.content) (wri
   turns_same (p ∷ ps) (t ∷ u ∷ turns) h = (subst (λ (ct : List ℕ → Option (List ℕ)). IsTurnOf k p (unwrap_or (ct (file_name p.1)) []) t) kept h.0, turns_same ps (u ∷ turns) h.1)
 
   -- a number that is new behind the job file's is new
-  fresh_before : (file : ℕ) (before now : ℕ → Bool) → AddsNumber file before now → (n : ℕ) → now n ≡ false → before n ≡ false
+  pub fresh_before : (file : ℕ) (before now : ℕ → Bool) → AddsNumber file before now → (n : ℕ) → now n ≡ false → before n ≡ false
   fresh_before file before now adds n h = fresh_if (n == file) refl
     where
       same_is : (n file : ℕ) → (n == file) ≡ true → n ≡ file
@@ -140,7 +146,7 @@ module _ (k : Checks) (old mid : Told) (kept : mid.content ≡ old.content) (wri
   }
 
   -- a number that was open is another one than the job file's
-  not_new : (file : ℕ) (before opened : ℕ → Bool) → AddsNumber file before opened → (n : ℕ) → before n ≡ true → n ≢ file
+  pub not_new : (file : ℕ) (before opened : ℕ → Bool) → AddsNumber file before opened → (n : ℕ) → before n ≡ true → n ≢ file
   not_new file before opened adds n was same = no (sym was ∙ ap before same ∙ adds.fresh)
     where
       no : true ≡ false → ⊥
@@ -161,7 +167,7 @@ module _ (k : Checks) (old mid : Told) (kept : mid.content ≡ old.content) (wri
   }
 
 -- ---- the run of `check`
-abbrev plan_valid : Plan → Type 0
+abbrev pub plan_valid : Plan → Type 0
 plan_valid plan = IsValid plan.dag plan.settings
 
 checks_of : (allows : AllowsLines) (c : JobCommand) (plan : Plan) (before opened : ℕ → Bool) (a b : Told) → plan_valid plan → ReadsPlan c plan before opened a b → (h : HasChecks c a) × IsCheckOf plan.dag plan.settings h.checks
@@ -174,7 +180,7 @@ checks_of allows c plan before opened a b valid r =
     (record { content = r.content; job = r.job; content_is = r.content_is; job_is = r.job_is; valid = valid_job; checks = k.0; is = k.1 }, of_plan)
 
 -- what is said of every check of a job, where there is one
-goes_of_all : (allows : AllowsLines) (c : JobCommand) (plan : Plan) (P : Checks → Told → Told → Type 0) (T : Told → Told → Type 0) (before opened : ℕ → Bool) → plan_valid plan
+pub goes_of_all : (allows : AllowsLines) (c : JobCommand) (plan : Plan) (P : Checks → Told → Told → Type 0) (T : Told → Told → Type 0) (before opened : ℕ → Bool) → plan_valid plan
     → ((a b d : Told) (r : ReadsPlan c plan before opened a b) (h : HasChecks c a) → P h.checks b d → T a d)
     → (old mid new : Option Told) → WhereTold (ReadsPlan c plan before opened) old mid → ((k : Checks) → IsCheckOf plan.dag plan.settings k → WhereTold (P k) mid new) → WhereTold T old new
 goes_of_all allows c plan P T before opened valid f None mid new r all = tt
@@ -187,12 +193,37 @@ goes_of_all allows c plan P T before opened valid f (Some a) (Some b) (Some d) r
     f a b d r found.0 (all found.0.checks found.1)
 
 -- the calls for the job file
-abbrev job_calls : List ℕ → ℕ → List ℕ → List CallMade
+abbrev pub job_calls : List ℕ → ℕ → List ℕ → List CallMade
 job_calls name file counts = Opened name file ∷ map (Read file) counts
 
 -- calls behind those for the job file
-then_calls : (a b d first later : List CallMade) → b ≡ a ++ first → d ≡ b ++ later → d ≡ a ++ (first ++ later)
+pub then_calls : (a b d first later : List CallMade) → b ≡ a ++ first → d ≡ b ++ later → d ≡ a ++ (first ++ later)
 then_calls a b d first later one two = two ∙ ap (λ (l : List CallMade). l ++ later) one ∙ append_assoc a first later
+
+-- the content that was read is that of the job
+same_content : (c : JobCommand) (plan : Plan) (before opened : ℕ → Bool) (a b : Told) (r : ReadsPlan c plan before opened a b) (h : HasChecks c a) → r.content ≡ h.content
+same_content c plan before opened a b r h = same_some r.content h.content (sym r.content_is ∙ h.content_is)
+  where
+    same_some : (x y : List ℕ) → Some x ≡ Some y → x ≡ y
+    same_some x y h = cc h
+
+-- and the plan is of that job
+pub dag_is : (c : JobCommand) (plan : Plan) (before opened : ℕ → Bool) (a b : Told) → ReadsPlan c plan before opened a b → (h : HasChecks c a) → plan.dag ≡ h.job.dag
+dag_is c plan before opened a b r h =
+    r.dag ∙ ap (λ (j : JobText). j.dag) (same_job r.job h.job (sym r.job_is ∙ ap job_at (same_content c plan before opened a b r h) ∙ h.job_is))
+  where
+    same_job : (x y : JobText) → (let one : Result JobText JobFault = Ok x in one ≡ Ok y) → x ≡ y
+    same_job x y h = cc h
+
+-- the job file stays read whole where its number stays open at its place
+pub read_whole : (c : JobCommand) (plan : Plan) (before opened now : ℕ → Bool) (a b d : Told) (r : ReadsPlan c plan before opened a b) (h : HasChecks c a) → now r.file ≡ true → d.place r.file ≡ b.place r.file
+    → IsReadWhole c.job h.content before now d
+read_whole c plan before opened now a b d r h added place = record {
+  file = r.file;
+  fresh = r.opened.fresh;
+  opened = added;
+  place = place ∙ r.place ∙ ap (λ (t : List ℕ). let p : Place = record { name = c.job; taken = length t } in p) (same_content c plan before opened a b r h);
+}
 
 pub goes_checked : (allows : AllowsLines) (c : JobCommand) (plan : Plan) (before opened now : ℕ → Bool) → plan_valid plan → (old mid new : Option Told) → WhereTold (ReadsPlan c plan before opened) old mid
     → ((k : Checks) → IsCheckOf plan.dag plan.settings k → WhereTold (Calling (IsChecked k opened now)) mid new) → WhereTold (Calling (IsCheckedJob c before now)) old new
@@ -203,26 +234,20 @@ goes_checked allows c plan before opened now valid =
       trace = then_calls a.trace b.trace d.trace (job_calls c.job r.file r.counts) k.calls r.trace k.trace;
       did = record {
         job = h;
-        read = record {
-          file = r.file;
-          fresh = r.opened.fresh;
-          opened = k.did.opened r.file r.opened.added;
-          place = k.did.places r.file r.opened.added ∙ r.place ∙ ap (λ (t : List ℕ). let p : Place = record { name = c.job; taken = length t } in p) (same_some r.content h.content (sym r.content_is ∙ h.content_is));
+        read = read_whole c plan before opened now a b d r h (k.did.opened r.file r.opened.added) (k.did.places r.file r.opened.added);
+        order = record {
+          first = job_calls c.job r.file r.counts;
+          later = k.calls;
+          calls_are = refl;
+          job = reads_only c.job r.file r.counts r.pieces r.few r.live;
+          files = checked_same h.checks a b r.kept r.written r.file before opened now k.calls d r.opened r.others k.did;
         };
-        first = job_calls c.job r.file r.counts;
-        later = k.calls;
-        calls_are = refl;
-        reads = reads_only c.job r.file r.counts r.pieces r.few r.live;
-        files = checked_same h.checks a b r.kept r.written r.file before opened now k.calls d r.opened r.others k.did;
       };
     })
-  where
-    same_some : (x y : List ℕ) → Some x ≡ Some y → x ≡ y
-    same_some x y h = cc h
 
 -- why the check of the files stopped, behind the calls for the job file
 why_stopped : (c : JobCommand) (stop : Stop) (file : ℕ) (counts : List ℕ) (a b d : Told) → b.content ≡ a.content → b.written ≡ a.written → (h : HasChecks c a) (later : List CallMade) → CheckStops h.checks stop later b d
-    → WhyHalted c (Stopped stop) (job_calls c.job file counts ++ later) a d
+    → WhyHalted c (check_end c) (Stopped stop) (job_calls c.job file counts ++ later) a d
 why_stopped c (BadLine part line why) file counts a b d kept written h later k = record {
   job = h;
   first = job_calls c.job file counts;
@@ -252,29 +277,34 @@ goes_check_stops allows c plan stop before opened valid =
     goes_of_all allows c plan (λ k. Calling (CheckStops k stop)) (Calling (CheckHalts c (Stopped stop))) before opened valid (λ a b d r h s. halts_check c plan stop before opened a b d r h s)
 
 -- the job of files that were checked is not refused
-pub goes_check_known : (allows : AllowsLines) (c : JobCommand) (plan : Plan) (stop : Stop) (before opened : ℕ → Bool) → plan_valid plan → (old mid new : Option Told) → WhereTold (ReadsPlan c plan before opened) old mid
-    → ((k : Checks) → IsCheckOf plan.dag plan.settings k → WhereTold (Calling (CheckStops k stop)) mid new) → WhereTold (λ a b. IsKnown (text_refusal c.options (a.content c.job)) (Stopped stop)) old new
-goes_check_known allows c plan stop before opened valid =
-    goes_of_all allows c plan (λ k. Calling (CheckStops k stop)) (λ a b. IsKnown (text_refusal c.options (a.content c.job)) (Stopped stop)) before opened valid
+pub goes_check_known : (allows : AllowsLines) (c : JobCommand) (plan : Plan) (stops : Checks → Told → Told → Type 0) (stop : Stop) (before opened : ℕ → Bool) → plan_valid plan → (old mid new : Option Told) → WhereTold (ReadsPlan c plan before opened) old mid
+    → ((k : Checks) → IsCheckOf plan.dag plan.settings k → WhereTold (stops k) mid new) → WhereTold (λ a b. IsKnown (text_refusal c.options (a.content c.job)) (Stopped stop)) old new
+goes_check_known allows c plan stops stop before opened valid =
+    goes_of_all allows c plan stops (λ a b. IsKnown (text_refusal c.options (a.content c.job)) (Stopped stop)) before opened valid
     (λ a b d r h s. none_known (text_refusal c.options (a.content c.job)) (Stopped stop) (ap (text_refusal c.options) h.content_is ∙ ap (job_refusal c.options) h.job_is ∙ ap (option_map refusal.Plan) h.valid))
 
 -- the reading of the job file ended early
-why_read : (c : JobCommand) (halt : Halt) (calls : List CallMade) (a b : Told) → IsNoBadHalt halt → ReadHalts c halt calls a b → WhyHalted c halt calls a b
-why_read c (Refused why) calls a b never h = (h.why, h.written)
-why_read c (Stopped (BadLine part line why)) calls a b never h = absurd never
-why_read c (Stopped (Outside call spot)) calls a b never h = (fails_first call spot calls h.why, inl h.written)
-why_read c (Stopped NoMemory) calls a b never h = inl h.written
+module _ (c : JobCommand) (e : EarlyEnd) (in_order : (told : Told) (calls : List CallMade) → ReadsJob c.job calls → e.in_order told calls) (begun : (a b : Told) → b.written ≡ a.written → e.begun a b) where
+  why_read : (halt : Halt) (calls : List CallMade) (a b : Told) → IsNoBadHalt halt → ReadHalts c halt calls a b → WhyHalted c e halt calls a b
+  why_read (Refused why) calls a b never h = (h.why, h.written)
+  why_read (Stopped (BadLine part line why)) calls a b never h = absurd never
+  why_read (Stopped (Outside call spot)) calls a b never h = (fails_first call spot calls h.why, begun a b h.written)
+  why_read (Stopped NoMemory) calls a b never h = begun a b h.written
+
+  pub goes_unread_job : (halt : Halt) (old new : Option Told) → IsNoBadHalt halt → WhereTold (Calling (ReadHalts c halt)) old new → WhereTold (Calling (JobHalts c e halt)) old new
+  goes_unread_job halt old new never = goes_weaker (Calling (ReadHalts c halt)) (Calling (JobHalts c e halt)) (λ a b h. record {
+    calls = h.calls;
+    trace = h.trace;
+    did = record { order = in_order a h.calls h.did.order; why = why_read halt h.calls a b never h.did };
+  }) old new
+
+-- so the calls for the job file are all
+pub job_alone : (c : JobCommand) (such : List CallMade → Type 0) (calls : List CallMade) → such [] → ReadsJob c.job calls → JobFirst c such calls
+job_alone c such calls none job = record { first = calls; later = []; calls_are = sym (append-nil calls); job = job; files = none }
 
 pub goes_halts_read : (c : JobCommand) (halt : Halt) (old new : Option Told) → IsNoBadHalt halt → WhereTold (Calling (ReadHalts c halt)) old new → WhereTold (Calling (CheckHalts c halt)) old new
 unfolding no_calls
-goes_halts_read c halt old new never = goes_weaker (Calling (ReadHalts c halt)) (Calling (CheckHalts c halt)) (λ a b h. record {
-  calls = h.calls;
-  trace = h.trace;
-  did = record {
-    order = record { first = h.calls; later = []; calls_are = sym (append-nil h.calls); job = h.did.order; files = no_calls (map file_name (files_of (a.content c.job))); turns = inl refl };
-    why = why_read c halt h.calls a b never h.did;
-  };
-}) old new
+goes_halts_read c = goes_unread_job c (check_end c) (λ told calls job. job_alone c (ChecksFiles c told) calls (record { order = no_calls (data_names c told); turns = inl refl }) job) (λ a b same. inl same)
 
 -- which file is not there
 pub lacks_job : (c : JobCommand) (told : Option Told) → LacksFile c.job told → LacksFiles c told

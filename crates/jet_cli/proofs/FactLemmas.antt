@@ -4,13 +4,15 @@ use Rattle.std.specs.Prelude.{IfErr, IfSome, IsSome, IsSomeAnd, option_map, slic
 use Rattle.jet_file.specs.Headline.{WritesNothing}
 use Rattle.jet_file.specs.Outside.{Told, WhereTold, LacksFile}
 use Rattle.jet_worker.specs.Calls.{Calling}
+use Rattle.jet_worker.specs.declared.stop.Call.{Call}
+use Rattle.jet_worker.specs.declared.stop.Spot.{Spot}
 use Rattle.jet_worker.specs.declared.stop.Stop.TheVariants.{BadLine, Outside, NoMemory}
 use Rattle.jet_cli.specs.CallOrder.{IsInOrder}
 use Rattle.jet_cli.specs.BaseJob.{base_fault}
 use Rattle.jet_flow.specs.DataFiles.{DataFile, file_name}
 use Rattle.jet_worker.specs.CheckText.{first_bad}
 use Rattle.jet_worker.specs.Checked.{IsGood, numbered}
-use Rattle.jet_cli.specs.CheckedJob.{AreGoodFiles, CheckHalts, HasDataFiles, IsBadLineOf, IsCheckedJob, LacksFiles}
+use Rattle.jet_cli.specs.CheckedJob.{AreGoodFiles, CheckHalts, EarlyEnd, HasDataFiles, IsBadLineOf, IsCheckedJob, JobHalts, LacksFiles, check_end}
 use Rattle.jet_cli.specs.JobChecks.{HasChecks}
 use Rattle.jet_cli.specs.JobData.{files_of}
 use Rattle.jet_lines.specs.declared.fault.LineFault.{LineFault}
@@ -46,7 +48,7 @@ lacks_of : {T : Type 0} (r : Result T Halt) (name : List ℕ) (told : Option Tol
 lacks_of (Ok x) name told h = tt
 lacks_of (Err e) name told h = λ is. lacks_not name told (h is)
 
-weaker_ok : {T : Type 0} (r : Result T Halt) (P Q : Type 0) → (P → Q) → OnOk r P → OnOk r Q
+pub weaker_ok : {T : Type 0} (r : Result T Halt) (P Q : Type 0) → (P → Q) → OnOk r P → OnOk r Q
 weaker_ok (Ok x) P Q f h = f h
 weaker_ok (Err e) P Q f h = tt
 
@@ -207,7 +209,7 @@ lacks_files c (Some t) (inr some) has =
     all_any (λ (f : DataFile). IsSome (t.content (file_name f))) (λ (f : DataFile). t.content (file_name f) ≡ None) (files_of (t.content c.job)) has.files some
     (λ f there none. some_none (t.content (file_name f)) there none)
 
-lacks_files_of : {T : Type 0} (r : Result T Halt) (c : JobCommand) (told : Option Told) → IfErr r (λ halt. IsOutsideHalt halt → LacksFiles c told)
+pub lacks_files_of : {T : Type 0} (r : Result T Halt) (c : JobCommand) (told : Option Told) → IfErr r (λ halt. IsOutsideHalt halt → LacksFiles c told)
     → IfErr r (λ halt. IsOutsideHalt halt → IsSomeAnd told (HasDataFiles c) → ⊥)
 lacks_files_of (Ok x) c told h = tt
 lacks_files_of (Err e) c told h = λ is. lacks_files c told (h is)
@@ -216,13 +218,13 @@ lacks_files_of (Err e) c told h = λ is. lacks_files c told (h is)
 checks_not_refused : (c : JobCommand) (a : Told) → HasChecks c a → text_refusal c.options (a.content c.job) ≡ None
 checks_not_refused c a h = ap (text_refusal c.options) h.content_is ∙ ap (job_refusal c.options) h.job_is ∙ ap (option_map refusal.Plan) h.valid
 
-check_not_refused : (c : JobCommand) (why : Refusal) (old new : Option Told) → WhereTold (λ a b. HasChecks c a) old new → IsSomeAnd old (λ t. text_refusal c.options (t.content c.job) ≡ Some why) → ⊥
+pub check_not_refused : (c : JobCommand) (why : Refusal) (old new : Option Told) → WhereTold (λ a b. HasChecks c a) old new → IsSomeAnd old (λ t. text_refusal c.options (t.content c.job) ≡ Some why) → ⊥
 check_not_refused c why None new r is = is
 check_not_refused c why (Some a) None r is = r
 check_not_refused c why (Some a) (Some b) r is = none_some (text_refusal c.options (a.content c.job)) why (checks_not_refused c a r) is
 
 -- what holds of numbered elements holds of each
-all_at : {X : Type 0} (P : ℕ × X → Type 0) (xs : List X) (i : ℕ) (x : X) → slice_get xs i ≡ Some x → All P (enumerate_from 0 xs) → P (i, x)
+pub all_at : {X : Type 0} (P : ℕ × X → Type 0) (xs : List X) (i : ℕ) (x : X) → slice_get xs i ≡ Some x → All P (enumerate_from 0 xs) → P (i, x)
 all_at {X = X} P xs i x is all =
     let lt : i < length xs = slice_get_within xs i x is in
     let lt' : i < length (enumerate_from 0 xs) = subst (λ (n : ℕ). i < n) (sym (length-enumerate_from 0 xs)) lt in
@@ -230,7 +232,7 @@ all_at {X = X} P xs i x is all =
     let number : 0 + i ≡ i = omega arith in
     subst P (get_or-enumerate_from 0 xs i (i, x) lt ∙ ap (λ (n : ℕ). let p : ℕ × X = (n, get_or xs i x) in p) number ∙ ap (λ (y : X). let p : ℕ × X = (i, y) in p) (get_or_from_slice_get xs i x x is)) at
 
-bad_not_good : (o : Option (List ℕ)) (f : List ℕ → Option (ℕ × LineFault)) (b : ℕ × LineFault) → IsSomeAnd o (λ content. f content ≡ None) → IsSomeAnd o (λ content. f content ≡ Some b) → ⊥
+pub bad_not_good : (o : Option (List ℕ)) (f : List ℕ → Option (ℕ × LineFault)) (b : ℕ × LineFault) → IsSomeAnd o (λ content. f content ≡ None) → IsSomeAnd o (λ content. f content ≡ Some b) → ⊥
 bad_not_good None f b good bad = good
 bad_not_good (Some content) f b good bad = cc (sym good ∙ bad)
 
@@ -242,13 +244,25 @@ bad_in_good c part line why (Some a) (Some b) h good =
     let bad = h.did.bad in
     bad_not_good (a.content (file_name bad.file)) (first_bad k (part, bad.file)) (line, why) (all_at (IsGood k a) k.files part bad.file bad.is (good h.did.job)) bad.bad
 
+-- what an early end says where the job is refused, and where a call failed
+module _ (c : JobCommand) (e : EarlyEnd) (old now : Option Told) (same : Type 0) where
+  pub job_refused : (why : Refusal) → WhereTold (Calling (JobHalts c e (Refused why))) old now → Halted (CheckOf c) old now same (Refused why)
+  job_refused why h = (
+    refused_told c why old now (goes_weaker (Calling (JobHalts c e (Refused why))) (λ a b. text_refusal c.options (a.content c.job) ≡ Some why) (λ a b k. k.did.why.0) old now h),
+    goes_weaker (Calling (JobHalts c e (Refused why))) WritesNothing (λ a b k. k.did.why.1) old now h,
+    λ none. absurd none,
+  )
+
+  pub job_failed : (call : Call) (spot : Spot) → WhereTold (λ a b. IsKnown (text_refusal c.options (a.content c.job)) (Stopped (Outside call spot))) old now
+      → WhereTold (Calling (JobHalts c e (Stopped (Outside call spot)))) old now → Halted (CheckOf c) old now same (Stopped (Outside call spot))
+  job_failed call spot known h = (
+    goes_weaker (Calling (JobHalts c e (Stopped (Outside call spot)))) (Fails (CheckOf c) call spot) (λ a b k. record { calls = k.calls; trace = k.trace; did = k.did.why.0 }) old now h,
+    goes_unread c call spot old now known,
+  )
+
 check_halted : (c : JobCommand) (old now : Option Told) (same : Type 0) (halt : Halt) → WhereTold (λ a b. IsKnown (text_refusal c.options (a.content c.job)) halt) old now → WhereTold (Calling (CheckHalts c halt)) old now
     → Halted (CheckOf c) old now same halt
-check_halted c old now same (Refused why) known h = (
-  refused_told c why old now (goes_weaker (Calling (CheckHalts c (Refused why))) (λ a b. text_refusal c.options (a.content c.job) ≡ Some why) (λ a b k. k.did.why.0) old now h),
-  goes_weaker (Calling (CheckHalts c (Refused why))) WritesNothing (λ a b k. k.did.why.1) old now h,
-  λ none. absurd none,
-)
+check_halted c old now same (Refused why) known h = job_refused c (check_end c) old now same why h
 check_halted c old now same (Stopped (BadLine p l w)) known h =
     let bad : WhereTold (Calling (IsBadLineOf c p l w)) old now =
     goes_weaker (Calling (CheckHalts c (Stopped (BadLine p l w)))) (Calling (IsBadLineOf c p l w)) (λ a b k. record { calls = k.calls; trace = k.trace; did = k.did.why }) old now h in (
@@ -256,10 +270,7 @@ check_halted c old now same (Stopped (BadLine p l w)) known h =
       λ cause is. check_not_refused c cause old now (goes_weaker (Calling (IsBadLineOf c p l w)) (λ a b. HasChecks c a) (λ a b k. k.did.job) old now bad) is,
       λ good. bad_in_good c p l w old now bad good,
     )
-check_halted c old now same (Stopped (Outside call spot)) known h = (
-  goes_weaker (Calling (CheckHalts c (Stopped (Outside call spot)))) (Fails (CheckOf c) call spot) (λ a b k. record { calls = k.calls; trace = k.trace; did = k.did.why.0 }) old now h,
-  goes_unread c call spot old now known,
-)
+check_halted c old now same (Stopped (Outside call spot)) known h = job_failed c (check_end c) old now same call spot known h
 check_halted c old now same (Stopped NoMemory) known h = tt
 
 -- the calls of `check`, however it ended, and what it has written then
@@ -269,8 +280,8 @@ check_calls c before after old now (Ok d) done halt =
     goes_weaker (Calling (IsCheckedJob c before after)) (Calling (IsInOrder (CheckOf c))) (λ a b h. record {
       calls = h.calls;
       trace = h.trace;
-      did = job_checked c a h.calls h.did.first h.did.later h.did.calls_are h.did.reads h.did.job h.did.files.order
-          (turns_all h.did.job.checks a (numbered h.did.job.checks) h.did.files.order.turns h.did.files.turns);
+      did = job_checked c a h.calls h.did.order.first h.did.order.later h.did.order.calls_are h.did.order.job h.did.job h.did.order.files.order
+          (turns_all h.did.job.checks a (numbered h.did.job.checks) h.did.order.files.order.turns h.did.order.files.turns);
     }) old now done
 check_calls c before after old now (Err e) done halt =
     goes_weaker (Calling (CheckHalts c e)) (Calling (IsInOrder (CheckOf c))) (λ a b h. record { calls = h.calls; trace = h.trace; did = h.did.order }) old now halt
@@ -295,7 +306,7 @@ pub check_facts : {S : Type 0} (told : S → Option Told) (opened : S → ℕ �
 check_facts told opened steady faults c old now r done halt known outcome works =
     let checked : Type 0 = WhereTold (Calling (IsCheckedJob c (opened old) (opened now))) (told old) (told now) in
     let quiet : OnOk r (WhereTold (StaysQuiet (CheckOf c)) (told old) (told now)) =
-    weaker_ok r checked (WhereTold (StaysQuiet (CheckOf c)) (told old) (told now)) (goes_weaker (Calling (IsCheckedJob c (opened old) (opened now))) (StaysQuiet (CheckOf c)) (λ a b k. k.did.files.notes) (told old) (told now)) done in
+    weaker_ok r checked (WhereTold (StaysQuiet (CheckOf c)) (told old) (told now)) (goes_weaker (Calling (IsCheckedJob c (opened old) (opened now))) (StaysQuiet (CheckOf c)) (λ a b k. k.did.order.files.notes) (told old) (told now)) done in
     record {
       calls = check_calls c (opened old) (opened now) (told old) (told now) r done halt;
       begun = check_begun c (told old) (told now) r halt;

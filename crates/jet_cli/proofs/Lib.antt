@@ -22,6 +22,8 @@ pub mod PartsOfAnswers
 pub mod ProgressLemmas
 pub mod ReadPlaces
 pub mod ReadSpellings
+pub mod RunFacts
+pub mod RunJobLemmas
 pub mod RunLemmas
 pub mod SpellingLemmas
 pub mod StopLemmas

@@ -15,7 +15,7 @@ use Rattle.jet_cli.specs.inner.Ended.{status_of}
 use Rattle.jet_cli.specs.inner.Halting.{HaltOutcome, IsOutsideHalt}
 use Rattle.jet_cli.specs.inner.Meeting.{Meets}
 use Rattle.jet_cli.specs.Refusals.{MayBeRefused, RefusalIs, refusal_of, base_refusal}
-use Rattle.jet_cli.specs.Words.{JetCommand, WindowOf, PlanOf, CheckOf}
+use Rattle.jet_cli.specs.Words.{JetCommand, WindowOf, RunOf, PlanOf, CheckOf}
 use Rattle.jet_cli.specs.declared.halt.Halt.{Halt}
 use Rattle.jet_cli.specs.declared.halt.Halt.TheVariants.{Refused, Stopped}
 use Rattle.jet_cli.specs.declared.status.Refusal.{Refusal}
@@ -62,6 +62,8 @@ some_not_none why o h k = cc (sym h ∙ k)
 -- a cause of refusal is the only one
 one_cause : (c : JetCommand) (told : Option Told) (why cause : Refusal) → MayBeRefused why c told → RefusalIs (Some cause) c told → why ≡ cause
 one_cause (WindowOf c) told why cause h k = same_why why cause (base_refusal c) h k
+one_cause (RunOf c) None why cause h k = absurd k
+one_cause (RunOf c) (Some t) why cause h k = same_why why cause (refusal_of (RunOf c) t.content) h k
 one_cause (PlanOf c) None why cause h k = absurd k
 one_cause (PlanOf c) (Some t) why cause h k = same_why why cause (refusal_of (PlanOf c) t.content) h k
 one_cause (CheckOf c) None why cause h k = absurd k
@@ -69,6 +71,8 @@ one_cause (CheckOf c) (Some t) why cause h k = same_why why cause (refusal_of (C
 
 no_cause : (c : JetCommand) (told : Option Told) (why : Refusal) → MayBeRefused why c told → RefusalIs None c told → ⊥
 no_cause (WindowOf c) told why h k = some_not_none why (base_refusal c) h k
+no_cause (RunOf c) None why h k = k
+no_cause (RunOf c) (Some t) why h k = some_not_none why (refusal_of (RunOf c) t.content) h k
 no_cause (PlanOf c) None why h k = k
 no_cause (PlanOf c) (Some t) why h k = some_not_none why (refusal_of (PlanOf c) t.content) h k
 no_cause (CheckOf c) None why h k = k

@@ -7,7 +7,7 @@ use Rattle.jet_worker.specs.declared.stop.Call.TheVariants.{Open, Read}
 use Rattle.jet_worker.specs.declared.stop.Spot.TheVariants.{Job}
 use Rattle.jet_cli.specs.CheckedJob.{AreGoodFiles, HasDataFiles}
 use Rattle.jet_cli.specs.JobWords.{JobCommand}
-use Rattle.jet_cli.specs.Words.{JetCommand, WindowCommand, WindowOf, PlanOf, CheckOf}
+use Rattle.jet_cli.specs.Words.{JetCommand, WindowCommand, WindowOf, RunOf, PlanOf, CheckOf}
 use Rattle.jet_cli.specs.declared.status.Status.{Status}
 use Rattle.jet_cli.specs.declared.status.Status.TheVariants.{Usage, JobRefused, OutsideFault, NoMemory}
 
@@ -26,6 +26,7 @@ HasJobFile c told = IsSomeAnd told (λ t. IsSome (t.content c.job))
 -- each file that the command reads is there
 abbrev pub HasFiles : JetCommand → Option Told → Type 0
 HasFiles (WindowOf c) told = HasFile c told
+HasFiles (RunOf c) told = IsSomeAnd told (HasDataFiles c)
 HasFiles (PlanOf c) told = HasJobFile c told
 HasFiles (CheckOf c) told = IsSomeAnd told (HasDataFiles c)
 
@@ -36,6 +37,7 @@ HasGoodFile c told = IsSomeAnd told (λ t. IsSomeAnd (t.content c.file) (λ cont
 -- each data file that the command reads is there, and none of its lines is bad
 abbrev pub HasGoodFiles : JetCommand → Option Told → Type 0
 HasGoodFiles (WindowOf c) told = HasGoodFile c told
+HasGoodFiles (RunOf c) told = IsSomeAnd told (AreGoodFiles c)
 HasGoodFiles (PlanOf c) told = ⊤
 HasGoodFiles (CheckOf c) told = IsSomeAnd told (AreGoodFiles c)
 
@@ -43,6 +45,7 @@ HasGoodFiles (CheckOf c) told = IsSomeAnd told (AreGoodFiles c)
 abbrev pub HasNoJobFile : Option JetCommand → Type 0
 HasNoJobFile None = ⊤
 HasNoJobFile (Some (WindowOf c)) = ⊤
+HasNoJobFile (Some (RunOf c)) = ⊥
 HasNoJobFile (Some (PlanOf c)) = ⊥
 HasNoJobFile (Some (CheckOf c)) = ⊥
 
@@ -55,6 +58,7 @@ IsForJobFile status = ⊥
 -- the answer tells that the command's job file was not read; `window` has none
 abbrev pub IsJobUnread : JetCommand → Status → Type 0
 IsJobUnread (WindowOf c) status = ⊥
+IsJobUnread (RunOf c) status = IsForJobFile status
 IsJobUnread (PlanOf c) status = IsForJobFile status
 IsJobUnread (CheckOf c) status = IsForJobFile status
 

@@ -12,7 +12,7 @@ use Rattle.jet_cli.specs.JobWords.{JobCommand}
 use Rattle.jet_cli.specs.JobChecks.{HasChecks}
 use Rattle.jet_cli.specs.JobData.{files_of}
 use Rattle.jet_cli.specs.Pacing.{ReadsOn}
-use Rattle.jet_cli.specs.Words.{JetCommand, WindowOf, PlanOf, CheckOf}
+use Rattle.jet_cli.specs.Words.{JetCommand, WindowOf, RunOf, PlanOf, CheckOf}
 
 -- one byte more than a job file may have
 abbrev pub most_text : ℕ
@@ -32,6 +32,7 @@ check_place spot = None
 -- the place of a file among the openings of a command
 abbrev pub place_in : JetCommand → Spot → Option ℕ
 place_in (WindowOf c) = part_place
+place_in (RunOf c) = check_place
 place_in (PlanOf c) = job_place
 place_in (CheckOf c) = check_place
 
@@ -45,19 +46,35 @@ pub record ReadsJob (name : List ℕ) (calls : List CallMade) : Type 0 where
   pub live : All (λ t. AreBeforeEnd t.counts) order.turns
   pub few : All (λ t. sum t.counts ≤ most_text) order.turns
 
--- first the calls for the job file, and then those for the data files of its job; the line of a file was written before
--- the next file was read
-pub record ChecksJob (c : JobCommand) (told : Told) (calls : List CallMade) : Type 0 where
+-- first the calls for the job file, and then such calls for the data files of its job
+pub record JobFirst (c : JobCommand) (such : List CallMade → Type 0) (calls : List CallMade) : Type 0 where
   pub first : List CallMade
   pub later : List CallMade
   pub calls_are : calls ≡ first ++ later
   pub job : ReadsJob c.job first
-  pub files : ReadsInOrder (map file_name (files_of (told.content c.job))) later
-  pub turns : (files.turns ≡ []) ⊎ ((job : HasChecks c told) × HaveTurns job.checks told (numbered job.checks) files.turns)
+  pub files : such later
+
+-- the names of the data files of the job in a command's job file
+abbrev pub data_names : JobCommand → Told → List (List ℕ)
+data_names c told = map file_name (files_of (told.content c.job))
+
+-- the data files have their turns: the line of a file was written before the next file was read
+pub record ChecksFiles (c : JobCommand) (told : Told) (calls : List CallMade) : Type 0 where
+  pub order : ReadsInOrder (data_names c told) calls
+  pub turns : (order.turns ≡ []) ⊎ ((job : HasChecks c told) × HaveTurns job.checks told (numbered job.checks) order.turns)
+
+-- the calls of `check`
+abbrev pub ChecksJob : JobCommand → Told → List CallMade → Type 0
+ChecksJob c told = JobFirst c (ChecksFiles c told)
+
+-- the calls of `run`: all data files are opened before the first is read
+abbrev pub RunsJob : JobCommand → Told → List CallMade → Type 0
+RunsJob c told = JobFirst c (OpensInOrder (data_names c told))
 
 -- the calls of a command come in its order, and no other file is opened; `window` reads on only when all is ready for it
 abbrev pub IsInOrder : JetCommand → List CallMade → Told → Told → Type 0
 IsInOrder (WindowOf c) calls old new = OpensInOrder (c.file ∷ []) calls × ReadsOn c old calls
+IsInOrder (RunOf c) calls old new = RunsJob c old calls
 IsInOrder (PlanOf c) calls old new = ReadsJob c.job calls
 IsInOrder (CheckOf c) calls old new = ChecksJob c old calls
 

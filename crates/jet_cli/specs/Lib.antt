@@ -13,6 +13,7 @@ pub mod JobData
 pub mod JobFiles
 pub mod Planned
 pub mod Refusals
+pub mod RunJob
 pub mod JobWords
 pub mod LineStops
 pub mod StatusText

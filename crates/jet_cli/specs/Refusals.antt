@@ -8,7 +8,7 @@ use Rattle.jet_job.specs.declared.job_text.JobText.{JobText}
 use Rattle.jet_plan.specs.Faults.{fault}
 use Rattle.jet_plan.specs.declared.settings.Settings.{Settings}
 use Rattle.jet_cli.specs.BaseJob.{base_fault}
-use Rattle.jet_cli.specs.Words.{JetCommand, WindowCommand, WindowOf, PlanOf, CheckOf}
+use Rattle.jet_cli.specs.Words.{JetCommand, WindowCommand, WindowOf, RunOf, PlanOf, CheckOf}
 use Rattle.jet_cli.specs.declared.job_words.Options.{Options}
 use Rattle.jet_cli.specs.declared.status.Refusal.{Refusal}
 use Rattle.jet_cli.specs.declared.status.Refusal.TheVariants.{Job, Plan}
@@ -38,17 +38,20 @@ base_refusal c = option_map Plan (base_fault c)
 -- why the job of a command is refused, where files have these contents
 abbrev pub refusal_of : JetCommand → (List ℕ → Option (List ℕ)) → Option Refusal
 refusal_of (WindowOf c) content = base_refusal c
+refusal_of (RunOf c) content = text_refusal c.options (content c.job)
 refusal_of (PlanOf c) content = text_refusal c.options (content c.job)
 refusal_of (CheckOf c) content = text_refusal c.options (content c.job)
 
 -- the outside has no part in the job of `window`; of other commands it may not tell the job file
 abbrev pub RefusalIs : Option Refusal → JetCommand → Option Told → Type 0
 RefusalIs why (WindowOf c) told = base_refusal c ≡ why
+RefusalIs why (RunOf c) told = IsSomeAnd told (λ t. refusal_of (RunOf c) t.content ≡ why)
 RefusalIs why (PlanOf c) told = IsSomeAnd told (λ t. refusal_of (PlanOf c) t.content ≡ why)
 RefusalIs why (CheckOf c) told = IsSomeAnd told (λ t. refusal_of (CheckOf c) t.content ≡ why)
 
 -- the job is refused for this cause, where the outside tells the job file
 abbrev pub MayBeRefused : Refusal → JetCommand → Option Told → Type 0
 MayBeRefused why (WindowOf c) told = base_refusal c ≡ Some why
+MayBeRefused why (RunOf c) told = IfSome told (λ t. refusal_of (RunOf c) t.content ≡ Some why)
 MayBeRefused why (PlanOf c) told = IfSome told (λ t. refusal_of (PlanOf c) t.content ≡ Some why)
 MayBeRefused why (CheckOf c) told = IfSome told (λ t. refusal_of (CheckOf c) t.content ≡ Some why)

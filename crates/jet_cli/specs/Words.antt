@@ -11,9 +11,10 @@ pub record WindowCommand : Type 0 where
   pub lag : ℕ
   pub file : List ℕ
 
--- `window`, `plan` or `check`, with what stands behind it
+-- `window`, `run`, `plan` or `check`, with what stands behind it
 pub data JetCommand : Type 0 where
   WindowOf : WindowCommand → JetCommand
+  RunOf : JobCommand → JetCommand
   PlanOf : JobCommand → JetCommand
   CheckOf : JobCommand → JetCommand
 
@@ -32,7 +33,7 @@ abbrev pub window_of : List (List ℕ) → Option WindowCommand
 window_of (size ∷ slide ∷ lag ∷ file ∷ []) = window_at (digits_word 16 size) (digits_word 16 slide) (digits_word 16 lag) file
 window_of words = None
 
--- the words behind `plan` and `check`
+-- the words behind `run`, `plan` and `check`
 abbrev pub job_of : List (List ℕ) → Option JobCommand
 job_of words = job_in (parts_of words)
 
@@ -41,6 +42,7 @@ abbrev pub command_of : List (List ℕ) → Option JetCommand
 command_of [] = None
 command_of (command ∷ words) =
     if bytes_eq command (codes "window") then option_map WindowOf (window_of words)
+    else if bytes_eq command (codes "run") then option_map RunOf (job_of words)
     else if bytes_eq command (codes "plan") then option_map PlanOf (job_of words)
     else if bytes_eq command (codes "check") then option_map CheckOf (job_of words)
     else None

@@ -11,28 +11,38 @@ ghost use Rattle.jet_cli.specs.LineStops.{BaseHalts};
 ghost use Rattle.jet_cli.specs.inner.Meeting.{Meets};
 ghost use Rattle.jet_cli.specs.Planned.{IsPlanned, PlanHalts};
 ghost use Rattle.jet_cli.specs.Refusals.{text_refusal};
+ghost use Rattle.jet_cli.specs.RunJob.{IsRunJob, RunHalts};
 ghost use Rattle.jet_cli.specs.WordsView.{AreSmall, IsSmall, command_in, job_read, window_in};
 
 use crate::base::run_window;
 use crate::base_job::base_job;
 use crate::halt::Halt;
 use crate::job_file::read_plan;
-use crate::{Command, JobWords, Status, Stop, WindowWords};
+use crate::{Command, Gate, JobWords, Status, Stop, WindowWords};
+use jet_coordinator::run_to_end;
 use jet_file::{Out, Outside};
 use jet_laws::none_is_behind;
 use jet_plan::{Settings, check, print_plan};
 use jet_policy::WinPolicy;
 use jet_worker::{a_valid_job_allows_lines, check_files, write_text};
 use std::alloc::Global;
+use std::thread::Threads;
 
 /// Does what a command says, and answers how that ended.
-pub(crate) fn run_command<O: Outside>(alloc: Global, command: &Command<'_>, out: &mut O) -> Status
+pub(crate) fn run_command<R: Threads + Sync, O: Outside, G: Gate + Sync>(
+    alloc: Global,
+    rt: &R,
+    gate: &G,
+    command: &Command<'_>,
+    out: &mut O,
+) -> Status
     requires small { IsSmall command.now }
     ensures { Meets O.told O.opened O.steady O.faults (command_in command.now) out.old out.new result }
 {
     none_is_behind();
     match command {
         Command::Window(words) => status_of(run_base(alloc, words, out)),
+        Command::Run(words) => status_of(run_files(alloc, rt, gate, words, out)),
         Command::Plan(words) => status_of(run_plan(alloc, words, out)),
         Command::Check(words) => status_of(run_check(alloc, words, out)),
     }
@@ -67,6 +77,26 @@ fn run_base<O: Outside>(alloc: Global, words: &WindowWords<'_>, out: &mut O) -> 
     check(alloc, dag, Settings::default())?;
     let policy = WinPolicy::new(words.size as i64, words.slide as i64).unwrap();
     run_window(alloc, policy, words, out)?;
+    Ok(())
+}
+
+// Runs a job from its data files to its rows.
+fn run_files<R: Threads + Sync, O: Outside, G: Gate + Sync>(
+    alloc: Global,
+    rt: &R,
+    gate: &G,
+    words: &JobWords<'_>,
+    out: &mut O,
+) -> Result<(), Halt>
+    ensures done { OnOk result (WhereTold (Calling (IsRunJob (job_read words.now) (O.opened out.old) (O.opened out.new))) (O.told out.old) (O.told out.new)) }
+    ensures halt { IfErr result (λ halt. WhereTold (Calling (RunHalts (job_read words.now) halt)) (O.told out.old) (O.told out.new)) }
+    ensures known { IfErr result (λ halt. WhereTold (λ old new. IsKnown (text_refusal words.now.options (old.content words.now.job.now)) halt) (O.told out.old) (O.told out.new)) }
+    ensures outcome { HaltOutcome O.steady O.faults out.old out.new result }
+    ensures works { O.steady out.old ≡ true → IfErr result (λ halt. IsOutsideHalt halt → LacksFiles (job_read words.now) (O.told out.old)) }
+{
+    a_valid_job_allows_lines();
+    let plan = read_plan(alloc, words, out)?;
+    run_to_end(alloc, rt, gate, &plan, out)?;
     Ok(())
 }
 

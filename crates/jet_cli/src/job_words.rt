@@ -1,4 +1,4 @@
-// The words behind `plan` and `check`: a job file's name, and the options `--workers`, `--members` and `--ring`.
+// The words behind `run`, `plan` and `check`: a job file's name, and the options `--workers`, `--members` and `--ring`.
 ghost use Rattle.std.specs.Prelude.{◌≡◌, [], is_none, if◌then◌else◌, map, option_map, string_bytes};
 ghost use Rattle.jet_cli.specs.JobWords.{Operand, Given, number_within};
 ghost use Rattle.jet_cli.specs.inner.PartsView.{part_in, parts_left, job_with, nothing_found, ReadsPart};
@@ -19,7 +19,7 @@ pub struct Options {
     pub ring: Option<i64>,
 }
 
-/// What stands behind the word `plan` or `check`: the name of the job file, and the options.
+/// What stands behind the word `run`, `plan` or `check`: the name of the job file, and the options.
 #[derive(Clone, Copy, Debug, PartialEq, Eq)]
 pub struct JobWords<'a> {
     pub job: &'a [u8],

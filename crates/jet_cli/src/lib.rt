@@ -1,10 +1,11 @@
-//! The command words and the top call: `jet window SIZE SLIDE LAG FILE`, `jet plan JOB` and `jet check JOB`.
+//! The command words and the top call: `jet window SIZE SLIDE LAG FILE`, `jet run JOB`, `jet plan JOB` and `jet check JOB`.
 //!
 //! `run_jet` carries the promise of the whole program. Below it there is a function for each command. `window` makes a
 //! job of its words that the planner of `jet_plan` accepts, reads one file piece by piece through the lines of
 //! `jet_lines`, counts its events with a marker and a plain window, and writes late lines and rows through the outside
-//! of `jet_file`. `plan` and `check` read a job file by `jet_job`, put the options of the words over its settings, and
-//! let the planner accept it; then `plan` writes the plan's text, and `check` has `jet_worker` check all lines.
+//! of `jet_file`. `run`, `plan` and `check` read a job file by `jet_job`, put the options of the words over its settings,
+//! and let the planner accept it; then `run` has `jet_coordinator` run the job, `plan` writes the plan's text, and `check`
+//! has `jet_worker` check all lines.
 //! `RealOutside` is the outside of the program.
 #![tactic(auto)]
 

@@ -21,18 +21,20 @@ use std::alloc::Global;
 use std::sync::ledger::Ledger;
 use std::thread::Threads;
 
-/// Does all that the program does. `words` are those after the program's name. One loop on the caller's thread does the
-/// work, and no step is counted yet.
+/// Does all that the program does. `words` are those after the program's name. `run` has the workers of its job on threads
+/// of `rt`, and a worker enters by `gate`; of the other commands one loop on the caller's thread does the work. No step is
+/// counted yet.
 pub fn run_jet<R: Threads + Sync, O: Outside, G: Gate + Sync, L: Ledger>(
-    _rt: &R,
+    rt: &R,
     alloc: Global,
     words: &[String],
     out: &mut O,
-    _gate: &G,
+    gate: &G,
     steps: &mut Steps<L>,
 ) -> Status
     // Done: to `window` the rows over all events but those of the late lines, to `plan` the plan's text, to `check` the
-    // check's text, and nothing else.
+    // check's text, and to `run` each row and late event of one list of items; and nothing else. Which items these are is
+    // not said yet.
     ensures done { result ≡ Status.Done → IsSomeAnd (command_of (map string_bytes words.now))
         (λ c. WhereTold (Finishes c (O.opened out.old) (O.opened out.new)) (O.told out.old) (O.told out.new)) }
     ensures quiet { result ≡ Status.Done → IsSomeAnd (command_of (map string_bytes words.now))
@@ -40,15 +42,16 @@ pub fn run_jet<R: Threads + Sync, O: Outside, G: Gate + Sync, L: Ledger>(
     ensures in_time { result ≡ Status.Done → IsSomeAnd (command_of (map string_bytes words.now))
         (λ c. WhereTold (StaysQuietInTime c) (O.told out.old) (O.told out.new)) }
 
-    // However it ends, its calls come in this order: the job file of `plan` and `check` is opened and read, and no more
+    // However it ends, its calls come in this order: the job file of `run`, `plan` and `check` is opened and read, and no more
     // bytes are taken of it than one too many; then the data files are opened in the order of their numbers, and no
     // other; then each has its turn in `check`: reads of it to its end, and then writes of its line, before the next file
-    // is read. A read takes at most 4096 bytes. Of a data file no read is made behind its end, nor once a whole line that
-    // was taken of it is bad; and before each read of `window` the late lines of the lines taken had been written.
+    // is read. A read takes at most 4096 bytes. Of a data file of `window` and `check` no read is made behind its end, nor
+    // once a whole line that was taken of it is bad; and before each read of `window` the late lines of the lines taken had
+    // been written.
     ensures calls { IfSome (command_of (map string_bytes words.now))
         (λ c. WhereTold (Calling (IsInOrder c)) (O.told out.old) (O.told out.new)) }
 
-    // Where a call fails or memory runs out, `plan` and `check` have written a front of their text.
+    // Where a call fails or memory runs out, `run`, `plan` and `check` have written fronts of their texts.
     ensures begun { IsCutShort result → IsSomeAnd (command_of (map string_bytes words.now))
         (λ c. WhereTold (HasBegun c) (O.told out.old) (O.told out.new)) }
 
@@ -89,7 +92,7 @@ pub fn run_jet<R: Threads + Sync, O: Outside, G: Gate + Sync, L: Ledger>(
         → HasGoodFiles c (O.told out.old) → (Rose (O.faults out.old) (O.faults out.new) → ⊥) → OrNoMemory result Status.Done }
 {
     match read_words(words) {
-        Some(command) => run_command(alloc, &command, out),
+        Some(command) => run_command(alloc, rt, gate, &command, out),
         None => Status::Usage,
     }
 }

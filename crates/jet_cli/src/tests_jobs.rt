@@ -59,6 +59,45 @@ edge,0,s,a,unicast,1,0\nedge,1,a,w,partitioned,1,0\nedge,2,w,z,unicast,1,0\ntota
     check_all(&rt, rt.alloc(), &cases)
 }
 
+// The base job run on one worker, on many, and over rings of two slots: the rows are the same.
+#[test]
+fn runs_on_any_workers(rt: HostRuntime) -> Result<(), Fail> {
+    let rows =
+        "w,0,10,a,1,1,1,1\nw,5,15,a,1,1,1,1\nw,10,20,a,1,1,1,1\nw,15,25,a,2,2,1,1\nw,20,30,a,1,1,1,1\n";
+    let run = |words| Case {
+        job: BASE,
+        file: b"7,a,1\n20,a,1\n14,a,1\n15,a,1\n",
+        rows,
+        notes: "late,w,0,3,14,a,1,0,0,0\n",
+        ..Case::of(words)
+    };
+    let bad = |words| Case {
+        job: BASE,
+        file: b"7,a,1\n8,a\n",
+        status: Status::BadLine {
+            part: 0,
+            line: 2,
+            why: LineFault::Fields,
+        },
+        ..Case::of(words)
+    };
+    let cases = [
+        run("run j --workers 1 --members 1 --ring 4096"),
+        run("run j --workers 8 --members 4 --ring 2"),
+        run("run j --workers 2 --members 2 --ring 2"),
+        bad("run j"),
+        Case {
+            failing: 4,
+            status: Status::OutsideFault {
+                call: Call::Open,
+                file: Spot::Part(0),
+            },
+            ..bad("run j")
+        },
+    ];
+    check_all(&rt, rt.alloc(), &cases)
+}
+
 const LOCAL: &str = r#"{"vertices":[
   {"name":"s","kind":"source","files":["t.csv"],"lag":3},
   {"name":"a","kind":"accumulate","size":10,"slide":5},

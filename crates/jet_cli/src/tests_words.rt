@@ -61,6 +61,7 @@ fn words_that_are_a_command(rt: HostRuntime) -> Result<(), Fail> {
     let cases = [
         ("window 10 5 3 t.csv", Some(Command::Window(window))),
         ("check j", Some(Command::Check(base))),
+        ("run j", Some(Command::Run(base))),
         ("plan j", plan("j", BARE)),
         ("plan ", plan("", BARE)),
         ("plan -", plan("-", BARE)),
@@ -95,7 +96,6 @@ fn words_that_are_none(rt: HostRuntime) -> Result<(), Fail> {
         "-h",
         "--version",
         "run",
-        "run j",
         "run j --workers 0",
         "run j --summary --summary",
         "trial 1",

@@ -21,6 +21,8 @@ pub struct WindowWords<'a> {
 pub enum Command<'a> {
     /// Counts the events of one file in windows.
     Window(WindowWords<'a>),
+    /// Runs a job.
+    Run(JobWords<'a>),
     /// Prints the plan of a job.
     Plan(JobWords<'a>),
     /// Checks a job and the lines of its files.
@@ -35,6 +37,7 @@ pub fn read_words(words: &[String]) -> Option<Command<'_>>
     let (command, words) = words.split_first()?;
     match command.as_str() {
         "window" => Some(Command::Window(window_words(words)?)),
+        "run" => Some(Command::Run(job_words(words)?)),
         "plan" => Some(Command::Plan(job_words(words)?)),
         "check" => Some(Command::Check(job_words(words)?)),
         _ => None,

@@ -1,5 +1,7 @@
 use Rattle.std.proofs.Common.{◌∙◌}
 use Rattle.std.proofs.lemmas.Result.{err_from_is_err_and}
+use Rattle.jet_worker.specs.Calls.{Calling}
+use Rattle.jet_worker.specs.Checked.{CheckStops}
 use Rattle.jet_cli.specs.WordsView.{job_read}
 use Rattle.jet_cli.proofs.CheckLemmas.{goes_checked, goes_check_known, goes_check_stops, goes_halts_read, lacks_data}
 use Rattle.jet_cli.proofs.commands.run_check.Goals as goal
@@ -29,5 +31,5 @@ returns-clause-done g c =
 pub returns-in_err-check_files-clause-known : goal.returns-in_err-check_files-clause-known
 returns-in_err-check_files-clause-known g c =
     let p = err_from_is_err_and c.from_residual-in_err-check_files.result c.from_residual-in_err-check_files.ensures.1 in
-    rw (p.1, p.2) (goes_check_known c.a_valid_job_allows_lines.ensures (job_read c.args.words.now) c.in_ok-plan.plan c.in_err-check_files.field-0.0 (g.O.Outside.opened c.args.out.now) (g.O.Outside.opened c.read_plan.new.out) c.in_ok-plan.ensures.valid
+    rw (p.1, p.2) (goes_check_known c.a_valid_job_allows_lines.ensures (job_read c.args.words.now) c.in_ok-plan.plan (λ k. Calling (CheckStops k c.in_err-check_files.field-0.0)) c.in_err-check_files.field-0.0 (g.O.Outside.opened c.args.out.now) (g.O.Outside.opened c.read_plan.new.out) c.in_ok-plan.ensures.valid
     (g.O.Outside.told c.args.out.now) (g.O.Outside.told c.read_plan.new.out) (g.O.Outside.told c.check_files.new.out) c.in_ok-plan.ensures.plan c.in_err-check_files.ensures.stop)
