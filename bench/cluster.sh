@@ -3,7 +3,8 @@
 #
 # First each pass over one file alone, in one process without Dask: seconds of the processor for each line, the least of ten. Then the
 # same job over 8 files of one line, and over all lines; what the second costs more is what the lines cost. Seconds are those of the
-# clock, and of all processors together; the memory is that of the greatest process. Both runs judge the job by the program jet.
+# clock, and of all processors together; the memory is that of the greatest process. Both runs judge the job by the program jet. At last
+# `jet run` has the same job, with as many workers as there were processes; it says whether its rows are the same.
 set -u
 top="$(cd "$(dirname "$0")/.." && pwd)" || exit 1
 lines="${1:-10000000}" processes="${2:-4}"
@@ -15,7 +16,7 @@ cd "$room" || exit 1
 write_file() {
     awk -v first="$1" -v count="$2" 'BEGIN {
         for (i = first; i < first + count; i++)
-            printf "%d,sensor-%d,%d\n", 1700000000000 + 10 * i + (7919 * i) % 41, (i * 31) % 50, (13 * i) % 1000 - 500
+            printf "%.0f,sensor-%d,%d\n", 1700000000000 + 10 * i + (7919 * i) % 41, (i * 31) % 50, (13 * i) % 1000 - 500
     }'
 }
 
@@ -40,6 +41,7 @@ JOB
 done
 
 exec /usr/bin/python3 - "$top/cluster/jet-dask" "$lines" "$processes" << 'CODE'
+import filecmp
 import os
 import resource
 import subprocess
@@ -47,6 +49,7 @@ import sys
 import time
 
 command, lines, processes = sys.argv[1], int(sys.argv[2]), sys.argv[3]
+jet = os.environ.get("JET_PROGRAM") or os.path.join(os.path.dirname(command), "..", "jet")
 block = str(max(1 << 16, min(1 << 24, lines * 30 // 32)))
 sys.path.insert(0, os.path.dirname(command))
 from jet_dask import blocks, stages
@@ -86,4 +89,13 @@ for which in ("one", "all"):
 more = seen["all"][1] - seen["one"][1]
 memory = resource.getrusage(resource.RUSAGE_CHILDREN).ru_maxrss / 1024
 print(f"{lines} lines, {processes} processes, blocks of {block} bytes: {more / lines * 1e6:.2f} us of a processor for each line, {memory:.0f} MB")
+
+began = time.time()
+with open("rows-of-jet", "wb") as rows:
+    process = subprocess.Popen([jet, "run", "all.json", "--workers", processes], stdout=rows)
+_, status, spent = os.wait4(process.pid, 0)
+took, busy = time.time() - began, spent.ru_utime + spent.ru_stime
+same = "the same rows" if filecmp.cmp("rows", "rows-of-jet", shallow=False) else "other rows"
+print(f"jet run, {processes} workers: status {os.waitstatus_to_exitcode(status)}, {same}, {took:.1f} s, {busy:.1f} s of processors", end=", ")
+print(f"{busy / lines * 1e6:.2f} us for each line")
 CODE

@@ -2,13 +2,15 @@
 
 Written from docs/DEFINITIONS.md and docs/FORMATS.md alone: one event at a time, no columns, no blocks, no frames, and nothing of the
 package that it is compared with. Every event is put into each window that covers it, and a row is the count, sum, least and greatest
-of what a window holds of a key. An event is late exactly where it is below the watermark of the events before it in its own file.
+of what a window holds of a key. An event is late exactly where it is below the watermark of the events before it in its own file; or,
+where the late lines of some run are given, exactly where these tell so.
 """
 
 from __future__ import annotations
 
 import math
 import re
+from collections import Counter
 from dataclasses import dataclass, replace
 from fractions import Fraction
 from typing import Any, Callable, Optional
@@ -338,18 +340,21 @@ class Definition:
             found.append(replace(event, key=row.label if vertex.get("rekey", False) else event.key, v=new))
         return found
 
-    def answer(self) -> Answer:
-        """Rows and late lines of all windows."""
+    def answer(self, told: Optional[list[str]] = None) -> Answer:
+        """Rows and late lines of all windows; where late lines are told, the events of these are late."""
         rows, late = [], []
+        left = Counter(told or [])
         for place, vertex in enumerate(self.vertices):
             if vertex["kind"] != "combine":
                 continue
             entry = self.vertex(next(edge["from"] for edge in self.edges if edge["to"] == vertex["name"]))
             held: dict[tuple[int, str], list[int]] = {}
             for event in self.entering(entry["name"]):
-                if (event.part, event.line) in self.behind:
-                    written = ",".join(str(value) for value in event.v)
-                    late.append(f"late,{vertex['name']},{event.part},{event.line},{event.ts},{event.key},{written}\n")
+                written = ",".join(str(value) for value in event.v)
+                line = f"late,{vertex['name']},{event.part},{event.line},{event.ts},{event.key},{written}\n"
+                if left[line] > 0 if told is not None else (event.part, event.line) in self.behind:
+                    left[line] -= 1
+                    late.append(line)
                     continue
                 end = floor_to(event.ts, entry["slide"]) + entry["slide"]
                 while end <= event.ts + entry["size"]:
@@ -361,9 +366,9 @@ class Definition:
         return Answer(None, "".join(row[3] for row in sorted(rows)), late)
 
 
-def run(job: dict[str, Any], contents: Callable[[str], bytes]) -> Answer:
-    """What a run of the job writes."""
+def run(job: dict[str, Any], contents: Callable[[str], bytes], told: Optional[list[str]] = None) -> Answer:
+    """What a run of the job writes; or what one writes that tells these late lines."""
     try:
-        return Definition(job, contents).answer()
+        return Definition(job, contents).answer(told)
     except BadLine as bad:
         return Answer(str(bad), "", [])

@@ -160,5 +160,7 @@ def case(seed: int) -> Case:
     vertices.append({"name": "z", "kind": "sink"})
     rng.shuffle(vertices)
     rng.shuffle(edges)
-    settings = {"lines": rng.choice([4, 15])} if rng.random() < 0.08 else {}
+    settings: dict[str, Any] = {"ahead": rng.choice([0, 5, 10_000, 10**15])}
+    if rng.random() < 0.08:
+        settings["lines"] = rng.choice([4, 15])
     return Case({"vertices": vertices, "edges": edges, "settings": settings}, files)

@@ -16,6 +16,7 @@ from jet_dask.run import Outlet, Sizes, run_job
 
 TOP = Path(__file__).resolve().parents[2]
 PROGRAM = os.environ["JET_PROGRAM"]
+JET_SECONDS = 60
 
 
 @dataclass
@@ -66,8 +67,14 @@ def put(room: Path, job: dict[str, Any], files: dict[str, bytes]) -> Path:
 
 
 def jet(*words: object, here: Path) -> subprocess.CompletedProcess[bytes]:
-    """A call of the program jet."""
-    return subprocess.run([PROGRAM, *map(str, words)], cwd=here, stdin=subprocess.DEVNULL, capture_output=True, check=False)
+    """A call of the program jet, which ends in this time."""
+    call = [PROGRAM, *map(str, words)]
+    return subprocess.run(call, cwd=here, stdin=subprocess.DEVNULL, capture_output=True, check=False, timeout=JET_SECONDS)
+
+
+def has_run() -> bool:
+    """Whether the program knows `run`; an empty job is refused then, and else the words are none."""
+    return jet("run", os.devnull, here=TOP).returncode != 2
 
 
 def window_job(name: str, size: int, slide: int, lag: int) -> dict[str, Any]:

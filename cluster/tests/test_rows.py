@@ -5,10 +5,12 @@ from __future__ import annotations
 import json
 import os
 import random
+import sys
 import tempfile
 import unittest
 from concurrent.futures import ThreadPoolExecutor
 from pathlib import Path
+from typing import Sequence
 
 from distributed import Client
 
@@ -16,12 +18,13 @@ import definition
 import random_jobs
 from jet_dask.run import Sizes
 from jet_dask.workers import local_workers
-from support import TOP, Written, jet, put, run, window_job
+from support import TOP, Written, has_run, jet, put, run, window_job
 
 RANDOM_JOBS = int(os.environ.get("JET_RANDOM_JOBS", "300"))
 RANDOM_WINDOWS = 40
 CHECKED_EACH = 5
 AT_ONCE = 4
+RUN_WORDS = [[], ["--workers", "1"], ["--workers", "3", "--ring", "2"], ["--workers", "8"]]
 EXAMPLES = sorted(path for path in TOP.glob("examples/*/job.json"))
 
 
@@ -32,6 +35,9 @@ class Rows(unittest.TestCase):
     def setUpClass(cls) -> None:
         cls.client = cls.enterClassContext(Client(cls.enterClassContext(local_workers(2))))
         cls.room = Path(cls.enterClassContext(tempfile.TemporaryDirectory()))
+        cls.has_run = has_run()
+        if not cls.has_run:
+            print("cluster: the program jet has no run, so its rows of jobs were not compared", file=sys.stderr)
 
     def agrees(self, job: Path, here: Path, found: Written) -> None:
         """A run gave what the definition says."""
@@ -41,13 +47,35 @@ class Rows(unittest.TestCase):
         self.assertEqual(found.rows.decode(), wanted.rows)
         self.assertEqual(found.late_lines(), sorted(wanted.late))
 
+    def agrees_with_run(self, job: Path, here: Path, found: Written, words: Sequence[str] = ()) -> bool:
+        """`jet run` ends with the same status and, where nothing is late, with the same rows; whether that was so.
+
+        What it tells as late may differ. Its rows are those of the definition without the events that it told.
+        """
+        if not self.has_run:
+            return False
+        ran = jet("run", job, *words, here=here)
+        self.assertEqual(ran.returncode, found.status)
+        if found.status != 0:
+            return False
+        told = ran.stderr.decode().splitlines(keepends=True)
+        wanted = definition.run(json.loads(job.read_bytes()), lambda name: (here / name).read_bytes(), told)
+        self.assertEqual(sorted(told), sorted(wanted.late))
+        self.assertEqual(ran.stdout.decode(), wanted.rows)
+        if told or found.late:
+            return False
+        self.assertEqual(ran.stdout, bytes(found.rows))
+        return True
+
     def test_examples(self) -> None:
         """Every example job, in blocks of three sizes."""
         self.assertGreater(len(EXAMPLES), 5)
         for job in EXAMPLES:
             for block in (7, 64, 1 << 20):
                 with self.subTest(job=job.parent.name, block=block):
-                    self.agrees(job, TOP, run(self.client, job, TOP, Sizes(block=block, events=3, rows=4, parts=2)))
+                    found = run(self.client, job, TOP, Sizes(block=block, events=3, rows=4, parts=2))
+                    self.agrees(job, TOP, found)
+                    self.agrees_with_run(job, TOP, found)
 
     def test_example_windows(self) -> None:
         """Every example of `window` gives the outputs that stand beside it; of a bad line the status and its line, and no row."""
@@ -73,14 +101,18 @@ class Rows(unittest.TestCase):
             self.assertEqual(found.rows + found.late, b"")
 
     def test_random_jobs(self) -> None:
-        """Random jobs and files, a few side by side; some of them are shown to `jet check` too, for its status and line."""
+        """Random jobs and files, a few side by side, and `jet run` with different words; some of them are shown to `jet check` too."""
+        same = 0
         with ThreadPoolExecutor(AT_ONCE) as pool:
             for seed, (job, found) in enumerate(pool.map(self.random_job, range(RANDOM_JOBS))):
                 with self.subTest(seed=seed):
                     self.agrees(job, job.parent, found)
+                    same += self.agrees_with_run(job, job.parent, found, RUN_WORDS[seed % len(RUN_WORDS)])
                     if seed % CHECKED_EACH == 0:
                         checked = jet("check", "job.json", here=job.parent)
                         self.assertEqual((found.status, found.line), (checked.returncode, checked.stderr.decode().rstrip("\n")))
+        if self.has_run:
+            self.assertGreater(same, RANDOM_JOBS // 5)
 
     def random_job(self, seed: int) -> tuple[Path, Written]:
         """A random job, run in blocks and ranges of random sizes."""
